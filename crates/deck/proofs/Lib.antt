@@ -1,0 +1,4 @@
+pub mod Written
+pub mod Fronts
+pub mod Judges
+pub mod Readings
