@@ -1,5 +1,7 @@
 //! Examples of what the library answers, worked out by hand from the rules.
 
+#![tactic(auto)]
+
 #[cfg(test)]
 mod decks;
 #[cfg(test)]

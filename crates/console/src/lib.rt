@@ -1,5 +1,7 @@
 //! What the programs share: they read a deck from standard input, and tell a fault by its line and the status 1.
 
+#![tactic(auto)]
+
 ghost use Rattle.std.specs.Prelude.{◌≡◌, false, is_ok};
 
 use refusal::{Fault, Layer, Refusal};

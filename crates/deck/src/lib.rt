@@ -1,5 +1,7 @@
 //! The deck: transistors and remarks as bytes, checked and read. A deck is a circuit.
 
+#![tactic(auto)]
+
 mod checks;
 mod commands;
 mod decks;

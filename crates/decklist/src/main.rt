@@ -1,5 +1,7 @@
 //! Reads a deck from standard input, checks it and lists its transistors.
 
+#![tactic(auto)]
+
 use crate::lines::TransistorLine;
 use deck::{Command, Deck};
 use record::Record;

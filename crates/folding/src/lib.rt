@@ -1,5 +1,7 @@
 //! The folding layer: it cuts each module of a circuit into fingers that are no wider than a limit.
 
+#![tactic(auto)]
+
 mod cutting;
 mod layer;
 

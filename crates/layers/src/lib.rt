@@ -1,5 +1,7 @@
 //! Layers that keep some modules of a circuit: those of one class, and those in a range of widths.
 
+#![tactic(auto)]
+
 mod classes;
 mod filters;
 mod ranges;

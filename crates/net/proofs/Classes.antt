@@ -1,6 +1,8 @@
 -- The tests on kinds, nets and classes decide what they ask.
 use Rattle.std.proofs.Common.{◌≡◌, ℕ, Bool, true, false, cond, ◌&&◌, eqb, [], ◌∷◌, Decides, sym, refl, ap, ◌∙◌, arith}
 use mathlib.Core.Bool.{beq}
+use denote.Enum.Bare.{sameb}
+use Rattle.net.specs.contracts.modules.Kind.{the_type}
 use Rattle.std.proofs.lemmas.Bool.{and_parts, and_from, eqb-true, eq-eqb}
 use Rattle.std.proofs.lemmas.Bool.Decides.{same_from_decides, Decides-and, Decides-like}
 use Rattle.net.specs.Nets.{Net}
@@ -32,10 +34,12 @@ same_itself (x ∷ xs) = and_from (eqb x x) (same_net xs xs) (eq-eqb x x refl) (
 pub decides_net : (xs ys : Net) → Decides (same_net xs ys) (xs ≡ ys)
 decides_net xs ys = (equal_from xs ys, λ e. ap (same_net xs) (sym e) ∙ same_itself xs)
 
--- what `==` on kinds promises, as a decision
-pub decides_from_eq : (r : Bool) (a b : Kind) → cond r (a ≡ b) (a ≡ b → ⊥) → Decides r (a ≡ b)
-decides_from_eq true a b h = (λ _. h, λ _. refl)
-decides_from_eq false a b h = (λ e. let z : ◌≡◌ {A = ℕ} 0 1 = cc in absurd (omega arith), λ e. absurd (h e))
+-- what `==` on kinds answers is the test
+pub kind_flag : (a b : Kind) → sameb the_type a b ≡ same_kind a b
+kind_flag NChannel NChannel = refl
+kind_flag NChannel PChannel = refl
+kind_flag PChannel NChannel = refl
+kind_flag PChannel PChannel = refl
 
 pub decides_equal : (a b : Bool) → Decides (beq a b) (a ≡ b)
 decides_equal true true = (λ _. refl, λ _. refl)

@@ -1,5 +1,7 @@
 //! Nets and the keys that name them, and modules over any such keys.
 
+#![tactic(auto)]
+
 mod keys;
 mod modules;
 mod widths;

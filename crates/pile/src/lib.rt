@@ -1,5 +1,7 @@
 //! The house pile: what of a circuit is stacked together.
 
+#![tactic(auto)]
+
 mod piles;
 mod reading;
 

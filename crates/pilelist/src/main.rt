@@ -1,5 +1,7 @@
 //! Reads a deck from standard input, checks it, and lists the pile that the options make of it.
 
+#![tactic(auto)]
+
 use crate::options::Options;
 use crate::piles::list_layers;
 use console::{read_deck, tell_fault};

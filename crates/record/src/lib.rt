@@ -1,5 +1,7 @@
 //! A transistor in plain numbers, and the module that it states.
 
+#![tactic(auto)]
+
 mod field;
 mod records;
 

@@ -1,5 +1,7 @@
 //! Refusals, the layers that give them, and the text line of a fault.
 
+#![tactic(auto)]
+
 mod decimal;
 mod fault;
 mod refusal;

@@ -1,4 +1,5 @@
-ghost use Rattle.std.specs.Prelude.{◌≡◌, Decides};
+ghost use Rattle.std.specs.Prelude.{◌≡◌, Decides, nat_eq};
+ghost use Rattle.std.specs.Ordering.{on, eq_of_both};
 ghost use Rattle.refusal.specs.Refusals.{number_of, place_of};
 ghost use Rattle.std.specs.Cmp.Rules.{comparing};
 ghost use Rattle.std.proofs.Common.{rules};
@@ -99,11 +100,14 @@ impl Refusal {
 
 /// Two refusals are equal where their numbers and their places are.
 impl PartialEq for Refusal {
-    ghost equals = { λ a b r. Decides r (a ≡ b) };
+    ghost eq = { eq_of_both (on number_of nat_eq) (on place_of nat_eq) };
 
     ghost laws = { Keys.partial_equiv_from_equiv (Prim.search (comparing, rules)) };
 
-    fn eq(&self, other: &Refusal) -> bool {
+    fn eq(&self, other: &Refusal) -> bool
+        ensures test { result ≡ eq_of_both (on number_of nat_eq) (on place_of nat_eq) self.now other.now }
+        ensures equal { Decides result (self.now ≡ other.now) }
+    {
         self.number() == other.number() && self.place() == other.place()
     }
 }

@@ -1,5 +1,7 @@
 //! A row of instances of one cell, which is a circuit.
 
+#![tactic(auto)]
+
 mod reading;
 mod rows;
 

@@ -1,5 +1,7 @@
 //! A table of records, which is a circuit.
 
+#![tactic(auto)]
+
 mod reading;
 mod tables;
 

@@ -1,5 +1,7 @@
 //! The deck that states the transistors of a table.
 
+#![tactic(auto)]
+
 ghost use Rattle.std.specs.Prelude.{◌≡◌, ◌*◌, ◌/◌, ◌%◌, ◌≤◌, ◌∷◌, map, length};
 ghost use Rattle.refusal.specs.Written.{over};
 ghost use Rattle.deck.specs.Format.{transistor, operands, entries_bytes};

@@ -4,25 +4,25 @@ use Rattle.writer.proofs.Pieces.{writer_refused, writer_short, writer_room, writ
 use Rattle.writer.proofs.Trips.{read_back, written_again}
 use Rattle.writer.proofs.write_deck.Goals as goal
 
-pub returns-in-err-check : goal.returns-in-err-check
-returns-in-err-check c =
+pub returns-in_err-check : goal.returns-in_err-check
+returns-in_err-check c =
     let rs = c.args.table.now.records.now in
     let p = err_from_is_err_and c.from-residual.result c.from-residual.ensures.1 in
-    let w = writer_refused rs c.args.buf.now _ (sym c.check.ensures ∙ c.in-err-check.was) in
+    let w = writer_refused rs c.args.buf.now _ (sym c.check.ensures ∙ c.in_err-check.was) in
     record { answer = rw (p.1, p.2) w.0; after = w.1; back = read_back rs; again = written_again rs }
 
 pub returns-then-buf-needed : goal.returns-then-buf-needed
 returns-then-buf-needed c =
     let rs = c.args.table.now.records.now in
-    let w = writer_short rs c.records-records.result.now c.args.buf.now c.records-records.ensures (sym c.check.ensures ∙ c.in-ok-check.was) c.if-buf-needed.true in
+    let w = writer_short rs c.records-records.result.now c.args.buf.now c.records-records.ensures (sym c.check.ensures ∙ c.in_ok-check.was) c.if-buf-needed.true in
     record { answer = w.0; after = w.1; back = read_back rs; again = written_again rs }
 
-pub put-deck-requires : goal.put-deck-requires
-put-deck-requires c =
-    writer_room c.args.table.now.records.now c.records-records.result.now c.args.buf.now c.records-records.ensures (sym c.check.ensures ∙ c.in-ok-check.was) c.if-buf-needed.false
+pub put_deck-requires : goal.put_deck-requires
+put_deck-requires c =
+    writer_room c.args.table.now.records.now c.records-records.result.now c.args.buf.now c.records-records.ensures (sym c.check.ensures ∙ c.in_ok-check.was) c.if-buf-needed.false
 
 pub returns : goal.returns
 returns c =
     let rs = c.args.table.now.records.now in
-    let w = writer_done rs c.records-records.result.now c.args.buf.now c.records-records.ensures (sym c.check.ensures ∙ c.in-ok-check.was) c.put-deck.new.buf c.if-buf-needed.false c.put-deck.ensures in
+    let w = writer_done rs c.records-records.result.now c.args.buf.now c.records-records.ensures (sym c.check.ensures ∙ c.in_ok-check.was) c.put_deck.new.buf c.if-buf-needed.false c.put_deck.ensures in
     record { answer = w.0; after = w.1; back = read_back rs; again = written_again rs }

@@ -3,8 +3,8 @@ use Rattle.std.proofs.lemmas.Result.{err_from_is_err_and}
 use Rattle.deck.proofs.Fronts.{no_front, front, front_begin, front_unknown, front_cut_transistor, front_cut_remark, front_operands}
 use Rattle.deck.proofs.commands.read_command.Goals as goal
 
-pub returns-in-default : goal.returns-in-default
-returns-in-default c = no_front c.args.offset c.args.bytes.now (omega (arith, ltb-true))
+pub returns-in_default : goal.returns-in_default
+returns-in_default c = no_front c.args.offset c.args.bytes.now (omega (arith, ltb-true))
 
 pub returns-in-16 : goal.returns-in-16
 returns-in-16 c = front_begin c.args.offset c.args.bytes.now (omega (arith, ltb-false)) c.in-16.is
@@ -12,29 +12,29 @@ returns-in-16 c = front_begin c.args.offset c.args.bytes.now (omega (arith, ltb-
 pub returns-in-127 : goal.returns-in-127
 returns-in-127 c = front c.args.offset c.args.bytes.now (omega (arith, ltb-false)) 0x7F c.in-127.is
 
-pub returns-in-default-code : goal.returns-in-default-code
-returns-in-default-code c =
+pub returns-in_default-code : goal.returns-in_default-code
+returns-in_default-code c =
     front_unknown c.args.offset c.args.bytes.now (omega (arith, ltb-false))
     (record { no_begin = λ e. omega arith; no_transistor = λ e. omega arith; no_remark = λ e. omega arith; no_end = λ e. omega arith })
 
-pub returns-in-err-part : goal.returns-in-err-part
-returns-in-err-part c =
+pub returns-in_err-part : goal.returns-in_err-part
+returns-in_err-part c =
     let p = err_from_is_err_and c.from-residual.result c.from-residual.ensures.1 in
-    rw (p.1, p.2) (front_cut_transistor c.args.offset c.args.bytes.now (omega (arith, ltb-false)) _ c.in-32.is c.in-err-part.ensures)
+    rw (p.1, p.2) (front_cut_transistor c.args.offset c.args.bytes.now (omega (arith, ltb-false)) _ c.in-32.is c.in_err-part.ensures)
 
-pub returns-in-err-part-2 : goal.returns-in-err-part-2
-returns-in-err-part-2 c =
-    let p = err_from_is_err_and c.from-residual-in-err-part-2.result c.from-residual-in-err-part-2.ensures.1 in
-    rw (p.1, p.2) (front_cut_remark c.args.offset c.args.bytes.now (omega (arith, ltb-false)) _ c.in-48.is c.in-err-part-2.ensures)
+pub returns-in_err-part-2 : goal.returns-in_err-part-2
+returns-in_err-part-2 c =
+    let p = err_from_is_err_and c.from-residual-in_err-part-2.result c.from-residual-in_err-part-2.ensures.1 in
+    rw (p.1, p.2) (front_cut_remark c.args.offset c.args.bytes.now (omega (arith, ltb-false)) _ c.in-48.is c.in_err-part-2.ensures)
 
-pub returns-in-ok-part : goal.returns-in-ok-part
-returns-in-ok-part c =
-    let e = c.in-ok-part.ensures in
-    let rest = c.in-ok-part.rest.now in
-    front_operands c.args.offset c.args.bytes.now (omega (arith, ltb-false)) 0x20 c.in-ok-part.part.now rest c.in-32.is e.0
-    ∙ ap (λ q. 0x20 ∷ (q ++ rest)) (sym c.read-record.ensures)
+pub returns-in_ok-part : goal.returns-in_ok-part
+returns-in_ok-part c =
+    let e = c.in_ok-part.ensures in
+    let rest = c.in_ok-part.rest.now in
+    front_operands c.args.offset c.args.bytes.now (omega (arith, ltb-false)) 0x20 c.in_ok-part.part.now rest c.in-32.is e.0
+    ∙ ap (λ q. 0x20 ∷ (q ++ rest)) (sym c.read_record.ensures)
 
-pub returns-in-ok-part-2 : goal.returns-in-ok-part-2
-returns-in-ok-part-2 c =
-    let e = c.in-ok-part-2.ensures in
-    (front_operands c.args.offset c.args.bytes.now (omega (arith, ltb-false)) 0x30 c.in-ok-part-2.part.now c.in-ok-part-2.rest.now c.in-48.is e.0, e.1, refl)
+pub returns-in_ok-part-2 : goal.returns-in_ok-part-2
+returns-in_ok-part-2 c =
+    let e = c.in_ok-part-2.ensures in
+    (front_operands c.args.offset c.args.bytes.now (omega (arith, ltb-false)) 0x30 c.in_ok-part-2.part.now c.in_ok-part-2.rest.now c.in-48.is e.0, e.1, refl)

@@ -7,13 +7,13 @@ pub returns-then-cursor-n : goal.returns-then-cursor-n
 returns-then-cursor-n g c =
     let cursor = c.args.cursor.now in
     let limit = c.args.limit in
-    let none : untold g.K.NetKey.net limit cursor.current cursor.told ≡ [] = untold_all g.K.NetKey.net limit cursor.current c.in-ok-m.m cursor.told c.finger-count-n.result c.in-ok-m.was c.finger-count-n.ensures.count c.if-cursor-n.true in
+    let none : untold g.K.NetKey.net limit cursor.current cursor.told ≡ [] = untold_all g.K.NetKey.net limit cursor.current c.in_ok-m.m cursor.told c.finger_count-n.result c.in_ok-m.was c.finger_count-n.ensures.count c.if-cursor-n.true in
     record { step = (none, none); below = refl }
 
 pub returns : goal.returns
 returns g c =
     let cursor = c.args.cursor.now in
     record {
-      step = untold_more g.K.NetKey.net c.args.limit cursor.current c.in-ok-m.m cursor.told c.finger-count-n.result _ c.in-ok-m.was c.finger-count-n.ensures.count c.if-cursor-n.false c.finger-of-finger.ensures;
+      step = untold_more g.K.NetKey.net c.args.limit cursor.current c.in_ok-m.m cursor.told c.finger_count-n.result _ c.in_ok-m.was c.finger_count-n.ensures.count c.if-cursor-n.false c.finger_of-finger.ensures;
       below = refl;
     }

@@ -3,8 +3,8 @@ use Rattle.std.proofs.lemmas.Fmt.{length-decimal-le}
 use Rattle.refusal.proofs.Digits.{length_more, length_one}
 use Rattle.refusal.proofs.decimal.digits.Goals as goal
 
-pub overflow-add-len : goal.overflow-add-len
-overflow-add-len c = omega (arith, length-decimal-le 20 c.args.n (omega arith) (omega arith) (omega arith), c.loop-rest.invariant.0)
+pub overflow_add-len : goal.overflow_add-len
+overflow_add-len c = omega (arith, length-decimal-le 20 c.args.n (omega arith) (omega arith) (omega arith), c.loop-rest.invariant.0)
 
 pub loop-rest-preserved : goal.loop-rest-preserved
 loop-rest-preserved c =

@@ -3,8 +3,8 @@ use Rattle.std.proofs.lemmas.Fmt.{decimal_nonempty}
 use Rattle.refusal.proofs.Digits.{length_more, length_one, put_more, put_first}
 use Rattle.refusal.proofs.decimal.put_digits.Goals as goal
 
-pub overflow-sub-i : goal.overflow-sub-i
-overflow-sub-i c = omega (arith, decimal_nonempty c.args.n (omega arith), c.requires)
+pub overflow_sub-i : goal.overflow_sub-i
+overflow_sub-i c = omega (arith, decimal_nonempty c.args.n (omega arith), c.requires)
 
 pub loop-rest-init : goal.loop-rest-init
 loop-rest-init c =
@@ -12,8 +12,8 @@ loop-rest-init c =
     let e : c.args.len - 1 + 1 ≡ length (decimal c.args.n) = omega arith in
     (omega arith, omega arith, omega arith, ap (λ k. decimal c.args.n ++ drop k c.args.buf.now) e)
 
-pub overflow-sub-i-in-loop-rest : goal.overflow-sub-i-in-loop-rest
-overflow-sub-i-in-loop-rest c =
+pub overflow_sub-i-in-loop-rest : goal.overflow_sub-i-in-loop-rest
+overflow_sub-i-in-loop-rest c =
     let l = c.loop-rest in
     omega (arith, length_more l.rest c.loop-rest-test.true l.invariant.0, decimal_nonempty (l.rest / 10) (omega arith), l.invariant.1)
 

@@ -13,5 +13,5 @@ returns c =
     in
     record {
       end = omega arith;
-      after = over_lent (at + 1) k (decimal c.args.n) (set buf at 32) c.put-digits.new.buf room c.put-digits.ensures ∙ over_cons at 32 (decimal c.args.n) buf (omega arith);
+      after = over_lent (at + 1) k (decimal c.args.n) (set buf at 32) c.put_digits.new.buf room c.put_digits.ensures ∙ over_cons at 32 (decimal c.args.n) buf (omega arith);
     }

@@ -9,4 +9,4 @@ pub loop-m-preserved : goal.loop-m-preserved
 loop-m-preserved g c = c.loop-m.invariant ∙ step_later _ _ _ c.loop-m.left c.in-Some.ensures (omega (arith, c.if-left-eq0.false))
 
 pub returns : goal.returns
-returns g c = sym (c.loop-m.invariant ∙ step_none _ c.loop-m.left c.in-default.ensures.0)
+returns g c = sym (c.loop-m.invariant ∙ step_none _ c.loop-m.left c.in_default.ensures.0)

@@ -2,17 +2,17 @@ use Rattle.std.proofs.Common.{rules}
 use Rattle.deck.proofs.Readings.{accepted_long, accepted_handed, refused_handed}
 use Rattle.deck.proofs.decks.Deck.commands.Goals as goal
 
-pub returns-in-default : goal.returns-in-default
-returns-in-default c =
-    let h = refused_handed c.args.self.now.bytes.now c.check.result c.check.ensures _ c.in-default.is in
+pub returns-in_default : goal.returns-in_default
+returns-in_default c =
+    let h = refused_handed c.args.self.now.bytes.now c.check.result c.check.ensures _ c.in_default.is in
     record { entries = h.entries; start = h.start; part = h.part }
 
 -- an accepted deck has begin and its edition
-pub slice-bounds-result-count-2 : goal.slice-bounds-result-count-2
-slice-bounds-result-count-2 c = accepted_long c.args.self.now.bytes.now c.check.result c.check.ensures c.in-Ok.is
+pub slice_bounds-result-count-2 : goal.slice_bounds-result-count-2
+slice_bounds-result-count-2 c = accepted_long c.args.self.now.bytes.now c.check.result c.check.ensures c.in-Ok.is
 
-pub slice-bounds-result-start-2 : goal.slice-bounds-result-start-2
-slice-bounds-result-start-2 c =
+pub slice_bounds-result-start-2 : goal.slice_bounds-result-start-2
+slice_bounds-result-start-2 c =
     let h = accepted_long c.args.self.now.bytes.now c.check.result c.check.ensures c.in-Ok.is in
     search rules
 

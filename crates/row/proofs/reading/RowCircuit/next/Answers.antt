@@ -6,4 +6,4 @@ pub loop-cursor-preserved : goal.loop-cursor-preserved
 loop-cursor-preserved g c =
     let r = c.args.self.now in
     let k = c.loop-cursor.cursor in
-    c.loop-cursor.invariant ∙ rest_over k.room k.instance r.told (g.C.Circuit.rest r.cell k.cell) _ (g.C.Circuit.list r.cell) c.loop-cursor-test.true c.in-default.ensures.0 (search rules)
+    c.loop-cursor.invariant ∙ rest_over k.room k.instance r.told (g.C.Circuit.rest r.cell k.cell) _ (g.C.Circuit.list r.cell) c.loop-cursor-test.true c.in_default.ensures.0 (search rules)

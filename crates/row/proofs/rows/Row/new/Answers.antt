@@ -5,7 +5,7 @@ use Rattle.row.proofs.rows.Row.new.Goals as goal
 
 pub returns : goal.returns
 returns g c = record {
-  tells = told_row c.args.instances _ (g.C.Circuit.list c.args.cell) c.instances-told-told.ensures.told;
+  tells = told_row c.args.instances _ (g.C.Circuit.list c.args.cell) c.instances_told-told.ensures.told;
   cell = refl;
   rails = rails_are_shared;
 }

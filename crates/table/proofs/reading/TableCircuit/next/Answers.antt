@@ -2,8 +2,8 @@ use Rattle.std.proofs.Common.{sym, arith}
 use Rattle.table.proofs.Checks.{position_few, step_some, step_none}
 use Rattle.table.proofs.reading.TableCircuit.next.Goals as goal
 
-pub overflow-add-cursor : goal.overflow-add-cursor
-overflow-add-cursor c =
+pub overflow_add-cursor : goal.overflow_add-cursor
+overflow_add-cursor c =
     let t = c.args.self.now in
     omega (arith, position_few t.verdict t.records.now c.args.cursor.now _ t.checked (sym c.in-Some.ensures))
 
