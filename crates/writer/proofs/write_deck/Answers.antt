@@ -7,7 +7,7 @@ use Rattle.writer.proofs.write_deck.Goals as goal
 pub returns-in_err-check : goal.returns-in_err-check
 returns-in_err-check c =
     let rs = c.args.table.now.records.now in
-    let p = err_from_is_err_and c.from-residual.result c.from-residual.ensures.1 in
+    let p = err_from_is_err_and c.from_residual.result c.from_residual.ensures.1 in
     let w = writer_refused rs c.args.buf.now _ (sym c.check.ensures ∙ c.in_err-check.was) in
     record { answer = rw (p.1, p.2) w.0; after = w.1; back = read_back rs; again = written_again rs }
 

@@ -11,7 +11,7 @@ returns-then-bytes-gt-MOST_BYTES c =
 
 pub returns-in_err-commands : goal.returns-in_err-commands
 returns-in_err-commands c =
-    let p = err_from_is_err_and c.from-residual.result c.from-residual.ensures.1 in
+    let p = err_from_is_err_and c.from_residual.result c.from_residual.ensures.1 in
     let a = refused_answer c.args.bytes.now _ (Refused.unopened c.if-bytes-gt-MOST_BYTES.false c.in_err-commands.ensures) in
     rw (p.1, p.2) (record { value = a.value; rules = a.rules })
 

@@ -17,24 +17,24 @@ returns-in_default-code c =
     front_unknown c.args.offset c.args.bytes.now (omega (arith, ltb-false))
     (record { no_begin = λ e. omega arith; no_transistor = λ e. omega arith; no_remark = λ e. omega arith; no_end = λ e. omega arith })
 
-pub returns-in_err-part : goal.returns-in_err-part
-returns-in_err-part c =
-    let p = err_from_is_err_and c.from-residual.result c.from-residual.ensures.1 in
-    rw (p.1, p.2) (front_cut_transistor c.args.offset c.args.bytes.now (omega (arith, ltb-false)) _ c.in-32.is c.in_err-part.ensures)
+pub returns-in_err-part-in-32 : goal.returns-in_err-part-in-32
+returns-in_err-part-in-32 c =
+    let p = err_from_is_err_and c.from_residual.result c.from_residual.ensures.1 in
+    rw (p.1, p.2) (front_cut_transistor c.args.offset c.args.bytes.now (omega (arith, ltb-false)) _ c.in-32.is c.in_err-part-in-32.ensures)
 
-pub returns-in_err-part-2 : goal.returns-in_err-part-2
-returns-in_err-part-2 c =
-    let p = err_from_is_err_and c.from-residual-in_err-part-2.result c.from-residual-in_err-part-2.ensures.1 in
-    rw (p.1, p.2) (front_cut_remark c.args.offset c.args.bytes.now (omega (arith, ltb-false)) _ c.in-48.is c.in_err-part-2.ensures)
+pub returns-in_err-part-in-48 : goal.returns-in_err-part-in-48
+returns-in_err-part-in-48 c =
+    let p = err_from_is_err_and c.from_residual-in_err-part-in-48.result c.from_residual-in_err-part-in-48.ensures.1 in
+    rw (p.1, p.2) (front_cut_remark c.args.offset c.args.bytes.now (omega (arith, ltb-false)) _ c.in-48.is c.in_err-part-in-48.ensures)
 
-pub returns-in_ok-part : goal.returns-in_ok-part
-returns-in_ok-part c =
-    let e = c.in_ok-part.ensures in
-    let rest = c.in_ok-part.rest.now in
-    front_operands c.args.offset c.args.bytes.now (omega (arith, ltb-false)) 0x20 c.in_ok-part.part.now rest c.in-32.is e.0
+pub returns-in_ok-part-in-32 : goal.returns-in_ok-part-in-32
+returns-in_ok-part-in-32 c =
+    let e = c.in_ok-part-in-32.ensures in
+    let rest = c.in_ok-part-in-32.rest.now in
+    front_operands c.args.offset c.args.bytes.now (omega (arith, ltb-false)) 0x20 c.in_ok-part-in-32.part.now rest c.in-32.is e.0
     ∙ ap (λ q. 0x20 ∷ (q ++ rest)) (sym c.read_record.ensures)
 
-pub returns-in_ok-part-2 : goal.returns-in_ok-part-2
-returns-in_ok-part-2 c =
-    let e = c.in_ok-part-2.ensures in
-    (front_operands c.args.offset c.args.bytes.now (omega (arith, ltb-false)) 0x30 c.in_ok-part-2.part.now c.in_ok-part-2.rest.now c.in-48.is e.0, e.1, refl)
+pub returns-in_ok-part-in-48 : goal.returns-in_ok-part-in-48
+returns-in_ok-part-in-48 c =
+    let e = c.in_ok-part-in-48.ensures in
+    (front_operands c.args.offset c.args.bytes.now (omega (arith, ltb-false)) 0x30 c.in_ok-part-in-48.part.now c.in_ok-part-in-48.rest.now c.in-48.is e.0, e.1, refl)

@@ -21,7 +21,7 @@ overflow_add-self c =
 pub invariant_of-self : goal.invariant_of-self
 invariant_of-self c =
     let s = c.args.self.now in
-    (omega (arith, s.room, says_size s.rest.now s.offset c.in-Ok.command c.in-Ok.behind.now c.in-Ok.ensures c.in_default-command.not-End), tt)
+    record { room = omega (arith, s.room, says_size s.rest.now s.offset c.in-Ok.command c.in-Ok.behind.now c.in-Ok.ensures c.in_default-command.not-End) }
 
 pub returns : goal.returns
 returns c =
