@@ -14,7 +14,7 @@ pub trait NamedKey: NetKey {
 
     /// Writes the name.
     fn write_name<W: fmt::Write>(&self, f: &mut fmt::Formatter<W>) -> fmt::Result
-        ensures { WritesOnOk write_str_gives f.old result (name self.now) f.new };
+        ensures { WritesOnOk W.write_str_gives f.old result (name self.now) f.new };
 }
 
 /// The number.
