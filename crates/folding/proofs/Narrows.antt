@@ -1,5 +1,5 @@
 -- No finger is wider than the limit.
-use Rattle.std.proofs.Common.{◌≡◌, ℕ, zero, suc, ◌+◌, ◌*◌, ◌/◌, ◌%◌, ◌<◌, ◌≤◌, min, cond, eqb, ltb, List, [], ◌∷◌, ◌++◌, map, ap, ⊎_elim, mod-lt, mul_comm, add-mul, one-mul, div-add-mod', zero-mul, arith}
+use Rattle.std.proofs.Common.{◌≡◌, ℕ, zero, suc, ◌+◌, ◌*◌, ◌/◌, ◌%◌, ◌<◌, ◌≤◌, min, eqb, ltb, List, [], ◌∷◌, map, ap, ⊎_elim, mod-lt, mul_comm, add-mul, one-mul, div-add-mod', arith}
 use native.Mathlib.Nat.{div-le_of_le-mul}
 use Rattle.std.specs.List.{range_with_len, AllByRecursion}
 use Rattle.std.proofs.ByRecursion.{All-append}

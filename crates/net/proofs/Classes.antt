@@ -1,10 +1,10 @@
 -- The tests on kinds, nets and classes decide what they ask.
-use Rattle.std.proofs.Common.{◌≡◌, ℕ, Bool, true, false, cond, ◌&&◌, eqb, [], ◌∷◌, Decides, sym, refl, ap, ◌∙◌, arith}
+use Rattle.std.proofs.Common.{◌≡◌, ℕ, Bool, true, false, ◌&&◌, eqb, [], ◌∷◌, Decides, sym, refl, ap, ◌∙◌, arith}
 use mathlib.Core.Bool.{beq}
 use denote.Enum.Bare.{sameb}
 use Rattle.net.specs.contracts.modules.Kind.{the_type}
 use Rattle.std.proofs.lemmas.Bool.{and_parts, and_from, eqb-true, eq-eqb}
-use Rattle.std.proofs.lemmas.Bool.Decides.{same_from_decides, Decides-and, Decides-like}
+use Rattle.std.proofs.lemmas.Bool.Decides.{Decides-and, Decides-like}
 use Rattle.net.specs.Nets.{Net}
 use Rattle.net.specs.Mods.{Mod}
 use Rattle.net.specs.Classes.{SameClass, same_kind, same_net, is_paired, same_class}
