@@ -1,5 +1,6 @@
 -- The numbers and places of refusals, and the numbers of layers.
-use Rattle.std.specs.Prelude.{ℕ}
+use Rattle.std.specs.Prelude.{ℕ, Bool, nat_eq}
+use Rattle.std.specs.Ordering.{on, eq_of_both}
 use Rattle.refusal.specs.declared.refusal.Refusal.{Refusal}
 use Rattle.refusal.specs.declared.refusal.Refusal.TheVariants.{TooLong, UnknownCommand, CutShort, OutOfOrder, OutOfRange, TooManyTransistors, Unread, LoadedAlready, BadCapacitances, TooManyModules, OtherClass, BadTwin, NoSuch, AlreadyWithdrawn, NotWithdrawn, BadEnd, NoCover, TooShort}
 use Rattle.refusal.specs.declared.fault.Layer.{Layer}
@@ -46,6 +47,10 @@ place_of (NotWithdrawn n) = n
 place_of (BadEnd n) = n
 place_of NoCover = 0
 place_of (TooShort n) = n
+
+-- the test whether two refusals have one number and one place
+abbrev pub same_refusal : Refusal → Refusal → Bool
+same_refusal = eq_of_both (on number_of nat_eq) (on place_of nat_eq)
 
 -- the number of a layer
 abbrev pub layer_number : Layer → ℕ

@@ -1,9 +1,8 @@
-ghost use Rattle.std.specs.Prelude.{◌≡◌, Decides, nat_eq};
-ghost use Rattle.std.specs.Ordering.{on, eq_of_both};
-ghost use Rattle.refusal.specs.Refusals.{number_of, place_of};
+ghost use Rattle.std.specs.Prelude.{◌≡◌, Decides};
+ghost use Rattle.std.specs.Cmp.{partial_equiv_from_equiv};
 ghost use Rattle.std.specs.Cmp.Rules.{comparing};
 ghost use Rattle.std.proofs.Common.{rules};
-ghost use Rattle.std.specs.Cmp as Keys;
+ghost use Rattle.refusal.specs.Refusals.{number_of, place_of, same_refusal};
 
 /// Why a request was refused. Each reason has a number and a place.
 #[derive(Clone, Copy, Eq)]
@@ -100,12 +99,12 @@ impl Refusal {
 
 /// Two refusals are equal where their numbers and their places are.
 impl PartialEq for Refusal {
-    ghost eq = { eq_of_both (on number_of nat_eq) (on place_of nat_eq) };
+    ghost eq = { same_refusal };
 
-    ghost laws = { Keys.partial_equiv_from_equiv (Prim.search (comparing, rules)) };
+    ghost laws = { partial_equiv_from_equiv (Prim.search (comparing, rules)) };
 
     fn eq(&self, other: &Refusal) -> bool
-        ensures test { result ≡ eq_of_both (on number_of nat_eq) (on place_of nat_eq) self.now other.now }
+        ensures test { result ≡ same_refusal self.now other.now }
         ensures equal { Decides result (self.now ≡ other.now) }
     {
         self.number() == other.number() && self.place() == other.place()
