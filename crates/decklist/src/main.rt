@@ -8,19 +8,29 @@ use record::Record;
 use refusal::{Fault, Layer, Refusal};
 use std::io;
 use std::io::{Read, Write};
+use std::process::ExitCode;
 
 mod lines;
 
 /// One byte more than a deck may have, so that an over-long deck is seen.
 const MOST_READ: u64 = 16385;
 
-fn main(rt: HostRuntime) -> io::Result<()> {
+/// Ends with the status 0, or 1 after a fault and where reading or printing failed.
+fn main(rt: HostRuntime) -> ExitCode {
+    match list_input(&rt) {
+        Ok(()) => ExitCode::SUCCESS,
+        Err(_) => ExitCode::FAILURE,
+    }
+}
+
+/// Lists the deck on standard input, or tells its fault.
+fn list_input(rt: &HostRuntime) -> io::Result<()> {
     let mut bytes = Vec::new(rt.alloc());
     rt.stdin().take(MOST_READ).read_to_end(&mut bytes)?;
     let deck = Deck::new(&bytes);
     match deck.check() {
-        Ok(()) => list(&rt, &deck, bytes.len()),
-        Err(refusal) => tell_fault(&rt, refusal),
+        Ok(()) => list(rt, &deck, bytes.len()),
+        Err(refusal) => tell_fault(rt, refusal),
     }
 }
 

@@ -9,20 +9,30 @@ use deck::Deck;
 use refusal::Layer;
 use row::Row;
 use std::io;
+use std::process::ExitCode;
 
 mod lists;
 mod options;
 mod piles;
 
-fn main(rt: HostRuntime) -> io::Result<()> {
-    let Some(options) = Options::given(&rt) else {
-        return tell_usage(&rt);
+/// Ends with the status 0, or 1 after a fault or the usage and where reading or printing failed.
+fn main(rt: HostRuntime) -> ExitCode {
+    match list_input(&rt) {
+        Ok(()) => ExitCode::SUCCESS,
+        Err(_) => ExitCode::FAILURE,
+    }
+}
+
+/// Lists the pile of the deck on standard input, or tells its fault, or how the program is called.
+fn list_input(rt: &HostRuntime) -> io::Result<()> {
+    let Some(options) = Options::given(rt) else {
+        return tell_usage(rt);
     };
-    let bytes = read_deck(&rt)?;
+    let bytes = read_deck(rt)?;
     let deck = Deck::new(&bytes);
     match deck.check() {
-        Ok(()) => list_deck(&rt, deck, options),
-        Err(refusal) => tell_fault(&rt, Layer::Deck, refusal),
+        Ok(()) => list_deck(rt, deck, options),
+        Err(refusal) => tell_fault(rt, Layer::Deck, refusal),
     }
 }
 
