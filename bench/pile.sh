@@ -1,12 +1,12 @@
 #!/bin/sh
 # Times passes over a large house pile: a row of 16 decks of 16 transistors, each 4,095 steps wide, in
 # fingers of 1 step, which are 1,048,320 modules of one class. The bar is 1 second a pass.
-# Usage: bench/pile.sh [PASSES]. Build the program first: rt check pilelist
+# Usage: bench/pile.sh [PASSES]. Build the program first: cd crates/pilelist && rt run
 set -e
 cd "$(dirname "$0")/.."
-program=target/bin/pilelist
+program=crates/pilelist/out/pilelist
 if [ ! -x "$program" ]; then
-    echo "$program is not there: build it with rt check pilelist" >&2
+    echo "$program is not there: build it with rt run in crates/pilelist" >&2
     exit 1
 fi
 

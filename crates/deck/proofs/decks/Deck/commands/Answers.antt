@@ -1,4 +1,4 @@
-use Rattle.std.proofs.Common.{rules}
+use Rattle.std.proofs.Common.{arith, rules}
 use Rattle.deck.proofs.Readings.{accepted_long, accepted_handed, refused_handed}
 use Rattle.deck.proofs.decks.Deck.commands.Goals as goal
 
@@ -9,7 +9,7 @@ returns-in_default c =
 
 -- an accepted deck has begin and its edition
 pub slice_bounds-result-count-2 : goal.slice_bounds-result-count-2
-slice_bounds-result-count-2 c = accepted_long c.args.self.now.bytes.now c.check.result c.check.ensures c.in-Ok.is
+slice_bounds-result-count-2 c = omega (arith, accepted_long c.args.self.now.bytes.now c.check.result c.check.ensures c.in-Ok.is)
 
 pub slice_bounds-result-start-2 : goal.slice_bounds-result-start-2
 slice_bounds-result-start-2 c =
