@@ -1,6 +1,11 @@
 -- Refusals are told apart by their numbers and places.
-use Rattle.std.proofs.Common.{◌≡◌, ℕ, true, cond, eqb, Decides, sym, refl, ap, ap₂, ◌∙◌}
+use Rattle.std.proofs.Common.{◌≡◌, ℕ, true, cond, ◌&&◌, eqb, Decides, sym, refl, ap, ap₂, ◌∙◌, rules}
 use Rattle.std.proofs.lemmas.Bool.{and_parts, and_from, eqb-true, eq-eqb}
+use Rattle.std.proofs.lemmas.Bool.Decides.{Decides-and, Decides-like}
+use denote.Enum.Bare.{sameb, same_true, true_same}
+use Rattle.refusal.specs.contracts.fault.Layer.{the_type}
+use Rattle.refusal.specs.declared.fault.Fault.{Fault}
+use Rattle.refusal.specs.declared.fault.Layer.{Layer}
 use Rattle.refusal.specs.declared.refusal.Refusal.{Refusal}
 use Rattle.refusal.specs.declared.refusal.Refusal.TheVariants.{TooLong, UnknownCommand, CutShort, OutOfOrder, OutOfRange, TooManyTransistors, Unread, LoadedAlready, BadCapacitances, TooManyModules, OtherClass, BadTwin, NoSuch, AlreadyWithdrawn, NotWithdrawn, BadEnd, NoCover, TooShort}
 use Rattle.refusal.specs.Refusals.{number_of, place_of, same_refusal}
@@ -46,3 +51,11 @@ same_equal a b h =
 -- the test on number and place decides whether two refusals are one
 pub decides_same : (a b : Refusal) → Decides (same_refusal a b) (a ≡ b)
 decides_same a b = (same_equal a b, λ e. ap (same_refusal a) (sym e) ∙ same_itself a)
+
+-- what the derived `==` on faults answers decides whether two faults are one
+pub decides_fault : (a b : Fault) → Decides (sameb the_type a.layer b.layer && same_refusal a.refusal b.refusal) (a ≡ b)
+decides_fault a b =
+    let fault : Layer → Refusal → Fault = λ l r. record { layer = l; refusal = r } in
+    let layers : Decides (sameb the_type a.layer b.layer) (a.layer ≡ b.layer) = (same_true the_type (search rules) a.layer b.layer, true_same the_type a.layer b.layer) in
+    Decides-like (sameb the_type a.layer b.layer && same_refusal a.refusal b.refusal) (λ h. ap₂ fault h.0 h.1) (λ e. (ap (λ (f : Fault). f.layer) e, ap (λ (f : Fault). f.refusal) e))
+    (Decides-and (sameb the_type a.layer b.layer) (same_refusal a.refusal b.refusal) layers (decides_same a.refusal b.refusal))
