@@ -1,7 +1,7 @@
 //! What a circuit is: a list of modules, asked by position or read in one pass.
 
 ghost use Rattle.std.specs.Prelude.{◌≡◌, List, length};
-ghost use Rattle.net.specs.Mods.{Mod, Lawful, widths};
+ghost use Rattle.net.specs.Mods.{Mod, Lawful};
 ghost use Rattle.circuit.specs.Tells.{Tells, Steps};
 
 use net::{Module, NetKey};
@@ -47,15 +47,11 @@ pub trait Circuit {
     fn module(&self, position: usize) -> Option<Module<Self::Key>>
         ensures { Tells Self.Key.NetKey.net (list self.now) position result }
     {
-        let mut left = position;
         let mut cursor = self.begin();
-        while let Some(m) = self.next(&mut cursor) {
-            if left == 0 {
-                return Some(m);
-            }
-            left -= 1;
+        for _ in 0..position {
+            self.next(&mut cursor)?;
         }
-        None
+        self.next(&mut cursor)
     }
 }
 
@@ -86,16 +82,4 @@ impl<'a, C: Circuit> Circuit for &'a C {
     fn module(&self, position: usize) -> Option<Module<C::Key>> {
         (**self).module(position)
     }
-}
-
-/// The widths of all modules, added up in one pass.
-pub fn total_width<C: Circuit>(circuit: &C) -> u32
-    ensures { result ≡ widths (C.Circuit.list circuit.now) }
-{
-    let mut sum = 0u32;
-    let mut cursor = circuit.begin();
-    while let Some(m) = circuit.next(&mut cursor) {
-        sum += u32::from(m.width.steps());
-    }
-    sum
 }

@@ -3,5 +3,7 @@
 #![tactic(auto)]
 
 mod circuits;
+mod passes;
 
-pub use circuits::{Circuit, total_width};
+pub use circuits::Circuit;
+pub use passes::{Pass, modules, total_width};
