@@ -27,13 +27,10 @@ const fn transistor(tag: u16, kind: u8, body: u16, width: u16, pair: u16, side: 
 
 /// Tag and width of each module that the circuit tells.
 fn told<C: Circuit>(heap: Global, circuit: &C) -> Result<Vec<(u16, u16)>, AllocError> {
-    let mut all = Vec::new(heap);
-    for position in 0..circuit.count() {
-        if let Some(m) = circuit.module(position) {
-            all.push((m.tag, m.width.steps()))?;
-        }
-    }
-    Ok(all)
+    (0..circuit.count())
+        .filter_map(|position| circuit.module(position))
+        .map(|m| (m.tag, m.width.steps()))
+        .collect(heap)
 }
 
 fn cell() -> [Record; 5] {

@@ -9,7 +9,7 @@ use Rattle.net.specs.Mods.{Mod}
 use Rattle.record.specs.declared.records.Record.{Record}
 use Rattle.record.specs.Records.{fits, stated}
 use Rattle.table.specs.Tables.{Verdict, unfit_from, table_verdict, told_by, stated_by}
-use Rattle.circuit.proofs.Passes.{lawful_length}
+use Rattle.circuit.proofs.Lengths.{lawful_length}
 use Rattle.table.specs.Lawfuls.{err_ok, table_checked, table_lawful}
 
 module _ (rs : List Record) (i : ℕ) (d : Record) (h : i < length rs) where
