@@ -1,6 +1,7 @@
 -- The class of a module: which modules may share diffusion at all.
-use Rattle.std.specs.Prelude.{◌≡◌, Bool, true, false, ◌&&◌, [], ◌∷◌, ◌==◌, nat_lt}
+use Rattle.std.specs.Prelude.{◌≡◌, Bool, true, false, ◌&&◌, ◌==◌, nat_lt}
 use Rattle.std.specs.Bool.{beq}
+use Rattle.std.specs.Cmp.Lexicographic.{pointwise}
 use Rattle.net.specs.Nets.{Net}
 use Rattle.net.specs.Mods.{Mod}
 use Rattle.net.specs.declared.modules.Kind.{Kind}
@@ -25,10 +26,7 @@ same_kind PChannel NChannel = false
 same_kind PChannel PChannel = true
 
 abbrev pub same_net : Net → Net → Bool
-same_net [] [] = true
-same_net [] (y ∷ ys) = false
-same_net (x ∷ xs) [] = false
-same_net (x ∷ xs) (y ∷ ys) = x == y && same_net xs ys
+same_net xs ys = pointwise ◌==◌ xs ys
 
 abbrev pub same_class : Mod → Mod → Bool
 same_class a b = same_kind a.kind b.kind && (same_net a.body b.body && beq (is_paired a) (is_paired b))

@@ -1,5 +1,5 @@
 -- A module over nets, the ranges that it keeps, and what holds of the list of every circuit.
-use Rattle.std.specs.Prelude.{◌≡◌, ℕ, ◌<◌, ◌≤◌, List, sum_by}
+use Rattle.std.specs.Prelude.{◌≡◌, ℕ, ◌<◌, ◌≤◌, Option, None, Some, List, sum_by}
 use Rattle.std.specs.List.{AllByRecursion}
 use Rattle.std.specs.NonZero.{non_zero_u16_get}
 use Rattle.net.specs.Nets.{Net, number_net, instance_net}
@@ -9,7 +9,6 @@ use Rattle.net.specs.declared.modules.Kind.{Kind}
 use Rattle.net.specs.declared.modules.Side.{Side}
 use Rattle.net.specs.declared.modules.Side.TheVariants.{Left}
 use Rattle.net.specs.declared.modules.Pairing.{Pairing}
-use Rattle.net.specs.declared.modules.Pairing.TheVariants.{Unpaired, Paired}
 use Rattle.net.specs.declared.modules.Module.{Module}
 
 -- one finger of one transistor, by its nets. Pair number 0 is unpaired
@@ -24,15 +23,15 @@ pub record Mod : Type 0 where
   pub pair : ℕ
   pub side : Side
 
--- the pair number of a pairing, 0 for unpaired
-abbrev pub pair_of : Pairing → ℕ
-pair_of Unpaired = 0
-pair_of (Paired n s) = non_zero_u16_get n
+-- the pair number of a pairing, 0 for none
+abbrev pub pair_of : Option Pairing → ℕ
+pair_of None = 0
+pair_of (Some p) = non_zero_u16_get p.number
 
--- the side of a pairing, left for unpaired
-abbrev pub side_of : Pairing → Side
-side_of Unpaired = Left
-side_of (Paired n s) = s
+-- the side of a pairing, left for none
+abbrev pub side_of : Option Pairing → Side
+side_of None = Left
+side_of (Some p) = p.side
 
 -- what a module means under the net of each key
 abbrev pub meaning : {K : Type 0} → (K → Net) → Module K → Mod

@@ -7,5 +7,5 @@ mod modules;
 mod widths;
 
 pub use keys::{InstanceKey, NetKey, NumberKey};
-pub use modules::{Kind, Module, Pairing, Side};
+pub use modules::{Kind, Module, Pairing, Side, UnknownKind, UnknownSide};
 pub use widths::Width;

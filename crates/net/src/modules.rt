@@ -1,12 +1,14 @@
 //! A module: one finger of one transistor.
 
-ghost use Rattle.std.specs.Prelude.{◌≡◌, Decides, nat_lt};
+ghost use Rattle.std.specs.Prelude.{◌≡◌, ◌↔◌, IsTrue, Some, nat_lt, true};
 ghost use Rattle.net.specs.Mods.{pair_of, meaning};
 ghost use Rattle.net.specs.Classes.{SameClass, same_class};
+ghost use Rattle.net.specs.Numbers.{ReadsKind, ReadsSide, kind_fits, kind_of_number, side_number_fits, side_of_number};
+ghost use Rattle.net.specs.Texts.{kind_text, side_text};
 
 use crate::keys::NetKey;
 use crate::widths::Width;
-use std::alloc::AllocError;
+use std::fmt;
 use std::num::NonZeroU16;
 
 /// The kind of channel.
@@ -16,6 +18,46 @@ pub enum Kind {
     PChannel,
 }
 
+/// A number that stands for no kind.
+#[derive(Clone, Copy, PartialEq, Eq)]
+pub struct UnknownKind(pub u8);
+
+impl TryFrom<u8> for Kind {
+    type Error = UnknownKind;
+
+    ghost try_from_gives = { ReadsKind };
+
+    fn try_from(number: u8) -> Result<Kind, UnknownKind> {
+        match number {
+            0 => Ok(Kind::NChannel),
+            1 => Ok(Kind::PChannel),
+            _ => Err(UnknownKind(number)),
+        }
+    }
+}
+
+impl From<Kind> for u8 {
+    ghost from_gives = { λ k n. (kind_fits n ≡ true) × (kind_of_number n ≡ k) };
+
+    fn from(kind: Kind) -> u8 {
+        match kind {
+            Kind::NChannel => 0,
+            Kind::PChannel => 1,
+        }
+    }
+}
+
+impl fmt::Display for Kind {
+    ghost output = { λ k. Some (kind_text k) };
+
+    fn fmt<W: fmt::Write>(&self, f: &mut fmt::Formatter<W>) -> fmt::Result {
+        f.write_str(match self {
+            Kind::NChannel => "n-channel",
+            Kind::PChannel => "p-channel",
+        })
+    }
+}
+
 /// The side of a matched pair on which a module stands.
 #[derive(Clone, Copy, PartialEq, Eq)]
 pub enum Side {
@@ -23,15 +65,56 @@ pub enum Side {
     Right,
 }
 
-/// Whether a module belongs to a matched pair: then to which, and on which side of it.
-#[derive(Clone, Copy)]
-pub enum Pairing {
-    Unpaired,
-    Paired { number: NonZeroU16, side: Side },
+/// A number that stands for no side.
+#[derive(Clone, Copy, PartialEq, Eq)]
+pub struct UnknownSide(pub u8);
+
+impl TryFrom<u8> for Side {
+    type Error = UnknownSide;
+
+    ghost try_from_gives = { ReadsSide };
+
+    fn try_from(number: u8) -> Result<Side, UnknownSide> {
+        match number {
+            0 => Ok(Side::Left),
+            1 => Ok(Side::Right),
+            _ => Err(UnknownSide(number)),
+        }
+    }
+}
+
+impl From<Side> for u8 {
+    ghost from_gives = { λ s n. (side_number_fits n ≡ true) × (side_of_number n ≡ s) };
+
+    fn from(side: Side) -> u8 {
+        match side {
+            Side::Left => 0,
+            Side::Right => 1,
+        }
+    }
+}
+
+impl fmt::Display for Side {
+    ghost output = { λ s. Some (side_text s) };
+
+    fn fmt<W: fmt::Write>(&self, f: &mut fmt::Formatter<W>) -> fmt::Result {
+        f.write_str(match self {
+            Side::Left => "left",
+            Side::Right => "right",
+        })
+    }
+}
+
+/// The matched pair to which a module belongs, and the side of it on which the module stands.
+#[derive(Clone, Copy, PartialEq, Eq)]
+pub struct Pairing {
+    pub number: NonZeroU16,
+    pub side: Side,
 }
 
 /// One finger of one transistor, its nets named by keys. The tag is carried along.
 #[derive(Copy)]
+#[derive_where(Clone; K: Copy)]
 pub struct Module<K> {
     pub kind: Kind,
     pub body: K,
@@ -40,28 +123,15 @@ pub struct Module<K> {
     pub drain: K,
     pub width: Width,
     pub tag: u16,
-    pub pairing: Pairing,
+    pub pairing: Option<Pairing>,
 }
 
-impl<K: Copy> Clone for Module<K> {
-    ghost is_clone = { λ x y. y ≡ x };
-
-    ghost is_infallible = { λ _. Unit {0} };
-
-    fn clone(&self) -> Result<Module<K>, AllocError> {
-        Ok(*self)
-    }
-}
-
-impl Pairing {
-    /// Whether there is a pair number.
+impl<K> Module<K> {
+    /// Whether the module belongs to a matched pair.
     pub fn is_paired(&self) -> bool
-        ensures { result ≡ nat_lt 0 (pair_of self.now) }
+        ensures { result ≡ nat_lt 0 (pair_of self.now.pairing) }
     {
-        match self {
-            Pairing::Unpaired => false,
-            Pairing::Paired { .. } => true,
-        }
+        self.pairing.is_some()
     }
 }
 
@@ -69,11 +139,10 @@ impl<K: NetKey> Module<K> {
     /// Whether both modules are of one class: of one kind, on one body net, and both paired or both not.
     pub fn same_class(&self, other: &Module<K>) -> bool
         ensures test { result ≡ same_class (meaning K.NetKey.net self.now) (meaning K.NetKey.net other.now) }
-        ensures class { Decides result (SameClass (meaning K.NetKey.net self.now) (meaning K.NetKey.net other.now)) }
+        ensures class { IsTrue result ↔ SameClass (meaning K.NetKey.net self.now) (meaning K.NetKey.net other.now) }
     {
-        let kinds = self.kind == other.kind;
-        let bodies = self.body.same(&other.body);
-        let pairings = self.pairing.is_paired() == other.pairing.is_paired();
-        kinds & (bodies & pairings)
+        self.kind == other.kind
+            && self.body.same(&other.body)
+            && self.is_paired() == other.is_paired()
     }
 }

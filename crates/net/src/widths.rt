@@ -1,6 +1,6 @@
 //! The width of a module.
 
-ghost use Rattle.std.specs.Prelude.{◌≡◌, ◌≤◌, MatchOption};
+ghost use Rattle.std.specs.Prelude.{◌≡◌, ◌↔◌, ◌≤◌, IfSome, IsSome};
 
 /// A width of 1 to 4,095 steps of 10 nm.
 #[derive(Clone, Copy)]
@@ -13,9 +13,10 @@ pub struct Width {
 impl Width {
     /// The width of that many steps, or None where no module is that narrow or wide.
     pub fn new(steps: u16) -> Option<Width>
-        ensures { MatchOption result ((1 ≤ steps) × (steps ≤ 4095) → ⊥) (λ w. (w.steps ≡ steps) × (1 ≤ steps) × (steps ≤ 4095)) }
+        ensures fits { IsSome result ↔ ((1 ≤ steps) × (steps ≤ 4095)) }
+        ensures value { IfSome result (λ w. w.steps ≡ steps) }
     {
-        if steps >= 1 && steps <= 4095 {
+        if (1..=4095).contains(&steps) {
             Some(Width { steps })
         } else {
             None
