@@ -1,3 +1,4 @@
 pub mod Refusals
 pub mod Written
 pub mod Lines
+pub mod Sameness

@@ -7,10 +7,10 @@ use Rattle.refusal.specs.Refusals.{number_of, place_of, layer_number}
 abbrev pub number_field : ℕ → List ℕ
 number_field n = 32 ∷ decimal n
 
--- the line with a layer's number, a refusal's number and a place: F, the three numbers and a newline
-abbrev pub line_of : ℕ → ℕ → ℕ → List ℕ
-line_of layer number place = codes "F" ++ number_field layer ++ number_field number ++ number_field place ++ (10 ∷ [])
+-- the text of a fault: F, and the numbers of the layer and of the refusal, and the place
+abbrev pub fault_text : Fault → List ℕ
+fault_text f = codes "F" ++ number_field (layer_number f.layer) ++ number_field (number_of f.refusal) ++ number_field (place_of f.refusal)
 
--- the line of a fault
+-- the line of a fault: its text and a newline
 abbrev pub fault_line : Fault → List ℕ
-fault_line f = line_of (layer_number f.layer) (number_of f.refusal) (place_of f.refusal)
+fault_line f = fault_text f ++ (10 ∷ [])

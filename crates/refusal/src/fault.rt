@@ -1,10 +1,12 @@
-ghost use Rattle.std.specs.Prelude.{◌≡◌, ◌+◌, ◌≤◌, length};
+ghost use Rattle.std.specs.Prelude.{◌≡◌, Some};
 ghost use Rattle.refusal.specs.Refusals.{layer_number};
-ghost use Rattle.refusal.specs.Lines.{number_field, line_of, fault_line};
-ghost use Rattle.refusal.specs.Written.{over, over_at, answer_of, buffer_after};
+ghost use Rattle.refusal.specs.Lines.{fault_text, fault_line};
+ghost use Rattle.refusal.specs.Written.{answer_of, buffer_after};
 
-use crate::decimal::{digits, put_digits};
 use crate::refusal::Refusal;
+use crate::written::write_text;
+use arrayvec::ArrayString;
+use std::fmt;
 
 /// The part of the work that refused, with its number.
 #[derive(Clone, Copy, PartialEq, Eq)]
@@ -23,6 +25,9 @@ impl Layer {
     }
 }
 
+/// Room for a line: `F`, numbers of at most 3, 3 and 20 digits, each behind a space, and a newline.
+const LINE_ROOM: usize = 31;
+
 /// A refusal, and the layer that gave it.
 #[derive(Clone, Copy, PartialEq, Eq)]
 pub struct Fault {
@@ -38,47 +43,34 @@ impl Fault {
         ensures answer { result ≡ answer_of (fault_line self.now) buf.old }
         ensures after { buf.new ≡ buffer_after (fault_line self.now) buf.old }
     {
-        let layer = u64::from(self.layer.number());
-        let number = u64::from(self.refusal.number());
-        let place = self.refusal.place() as u64;
-        let needed = line_length(layer, number, place);
-        if buf.len() < needed {
-            return Err(Refusal::TooShort { needed });
-        }
-        put_line(buf, layer, number, place);
-        Ok(needed)
+        write_text(buf, self.line().as_str())
+    }
+
+    /// The fault's line.
+    fn line(&self) -> ArrayString<LINE_ROOM>
+        ensures { result.bytes ≡ fault_line self.now }
+    {
+        let mut digits = itoa::Buffer::new();
+        let mut line = ArrayString::new();
+        line.push_str("F ");
+        line.push_str(digits.format(self.layer.number()));
+        line.push_str(" ");
+        line.push_str(digits.format(self.refusal.number()));
+        line.push_str(" ");
+        line.push_str(digits.format(self.refusal.place()));
+        line.push_str("\n");
+        line
     }
 }
 
-/// How many bytes the line with these numbers has.
-fn line_length(layer: u64, number: u64, place: u64) -> usize
-    ensures { result ≡ length (line_of layer number place) }
-{
-    5 + digits(layer) + digits(number) + digits(place)
-}
+/// Prints the fault's line without its newline.
+impl fmt::Display for Fault {
+    ghost output = { λ f. Some (fault_text f) };
 
-/// Writes the line with these numbers at the front.
-fn put_line(buf: &mut [u8], layer: u64, number: u64, place: u64)
-    requires { length (line_of layer number place) ≤ length buf.old }
-    ensures { buf.new ≡ over (line_of layer number place) buf.old }
-{
-    buf[0] = b'F';
-    let end = put_field(buf, 1, layer);
-    let end = put_field(buf, end, number);
-    let end = put_field(buf, end, place);
-    buf[end] = b'\n';
-}
-
-/// Writes a space and `n` in decimal at `at`, and answers where they end.
-fn put_field(buf: &mut [u8], at: usize, n: u64) -> usize
-    requires { at + length (number_field n) ≤ length buf.old }
-    ensures end { result ≡ at + length (number_field n) }
-    ensures after { buf.new ≡ over_at at (number_field n) buf.old }
-{
-    let len = digits(n);
-    let start = at + 1;
-    let end = start + len;
-    buf[at] = b' ';
-    put_digits(&mut buf[start..end], n, len);
-    end
+    fn fmt<W: fmt::Write>(&self, f: &mut fmt::Formatter<W>) -> fmt::Result {
+        let layer = self.layer.number();
+        let number = self.refusal.number();
+        let place = self.refusal.place();
+        write!(f, "F {layer} {number} {place}")
+    }
 }

@@ -2,10 +2,10 @@
 
 #![tactic(auto)]
 
-mod decimal;
 mod fault;
 mod refusal;
+mod written;
 
-pub use decimal::write_decimal;
 pub use fault::{Fault, Layer};
 pub use refusal::Refusal;
+pub use written::write_decimal;

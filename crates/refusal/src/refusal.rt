@@ -1,11 +1,8 @@
-ghost use Rattle.std.specs.Prelude.{◌≡◌, Decides};
-ghost use Rattle.std.specs.Cmp.{partial_equiv_from_equiv};
-ghost use Rattle.std.specs.Cmp.Rules.{comparing};
-ghost use Rattle.std.proofs.Common.{rules};
-ghost use Rattle.refusal.specs.Refusals.{number_of, place_of, same_refusal};
+ghost use Rattle.std.specs.Prelude.{◌≡◌};
+ghost use Rattle.refusal.specs.Refusals.{number_of, place_of};
 
 /// Why a request was refused. Each reason has a number and a place.
-#[derive(Clone, Copy, Eq)]
+#[derive(Clone, Copy, PartialEq, Eq)]
 pub enum Refusal {
     /// 1: a deck above 16,384 bytes. Place: its length.
     TooLong { length: usize },
@@ -94,19 +91,5 @@ impl Refusal {
             | Refusal::BadCapacitances
             | Refusal::NoCover => 0,
         }
-    }
-}
-
-/// Two refusals are equal where their numbers and their places are.
-impl PartialEq for Refusal {
-    ghost eq = { same_refusal };
-
-    ghost laws = { partial_equiv_from_equiv (Prim.search (comparing, rules)) };
-
-    fn eq(&self, other: &Refusal) -> bool
-        ensures test { result ≡ same_refusal self.now other.now }
-        ensures equal { Decides result (self.now ≡ other.now) }
-    {
-        self.number() == other.number() && self.place() == other.place()
     }
 }
