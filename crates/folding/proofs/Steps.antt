@@ -1,11 +1,13 @@
 -- What is still to be told of a pass, finger by finger.
-use Rattle.std.proofs.Common.{◌≡◌, ℕ, ◌+◌, ◌<◌, ◌≤◌, List, [], ◌∷◌, ◌++◌, length, get_or, drop, Some, Option, ap, ◌∙◌, arith}
+use Rattle.std.proofs.Common.{◌≡◌, ℕ, suc, ◌+◌, ◌-◌, ◌<◌, ◌≤◌, List, [], ◌∷◌, ◌++◌, map, length, get_or, Some, None, Option, ap, ◌∙◌, sym, arith}
+use Rattle.std.specs.List.{range_with_len}
 use Rattle.std.proofs.lemmas.List.FromFn.{length-map-range_with_len, get_or-map-range_with_len}
-use Rattle.std.proofs.lemmas.List.{drop_more, drop_all}
 use Rattle.net.specs.Nets.{Net}
 use Rattle.net.specs.declared.modules.Module.{Module}
-use Rattle.net.specs.Mods.{Mod, meaning}
-use Rattle.folding.specs.Folds.{finger_count, finger, fingers, folded_by, untold}
+use Rattle.net.specs.Mods.{Mod}
+use Rattle.circuit.specs.Tells.{Steps}
+use Rattle.folding.specs.Folds.{finger_count, finger, fingers, fingers_from, folded_by}
+use Rattle.folding.specs.Lawfuls.{count_least}
 
 pub length_fingers : (limit : ℕ) (m : Mod) → length (fingers limit m) ≡ finger_count limit m.width
 length_fingers limit m = length-map-range_with_len (finger (finger_count limit m.width) m) 0 (finger_count limit m.width)
@@ -13,25 +15,20 @@ length_fingers limit m = length-map-range_with_len (finger (finger_count limit m
 pub finger_at : (limit : ℕ) (m : Mod) (k : ℕ) → k < finger_count limit m.width → get_or (fingers limit m) k m ≡ finger (finger_count limit m.width) m k
 finger_at limit m k h = get_or-map-range_with_len (finger (finger_count limit m.width) m) 0 (finger_count limit m.width) k k m h (omega arith)
 
-fingers_more : (limit : ℕ) (m : Mod) (k : ℕ) → k < finger_count limit m.width → drop k (fingers limit m) ≡ finger (finger_count limit m.width) m k ∷ drop (k + 1) (fingers limit m)
-fingers_more limit m k h =
-    drop_more (fingers limit m) k m (omega (arith, length_fingers limit m)) ∙ ap (λ x. x ∷ drop (k + 1) (fingers limit m)) (finger_at limit m k h)
+-- the first of the fingers from finger k on, and the others
+pub fingers_more : (k n : ℕ) (m : Mod) → k < n → fingers_from k n m ≡ finger n m k ∷ fingers_from (k + 1) n m
+fingers_more k n m h =
+    let j : n - k ≡ suc (n - (k + 1)) = omega arith in
+    ap (λ i. map (finger n m) (range_with_len k i)) j
 
-module _ {K : Type 0} (net : K → Net) (limit : ℕ) where
-  -- the next finger of the module under way
-  pub untold_more : (o : Option (Module K)) (m : Module K) (k n : ℕ) (x : Mod) → o ≡ Some m → n ≡ finger_count limit m.width.steps → k < n → x ≡ finger n (meaning net m) k → untold net limit o k ≡ x ∷ untold net limit o (k + 1)
-  untold_more o m k n x e c h t =
-      let step = fingers_more limit (meaning net m) k (omega arith) in
-      cc
+-- from behind the last on there is none
+pub fingers_none : (k n : ℕ) (m : Mod) → n ≤ k → fingers_from k n m ≡ []
+fingers_none k n m h =
+    let j : n - k ≡ 0 = omega arith in
+    ap (λ i. map (finger n m) (range_with_len k i)) j
 
-  -- all its fingers are told
-  pub untold_all : (o : Option (Module K)) (m : Module K) (k n : ℕ) → o ≡ Some m → n ≡ finger_count limit m.width.steps → n ≤ k → untold net limit o k ≡ []
-  untold_all o m k n e c h =
-      let none = drop_all k (fingers limit (meaning net m)) (omega (arith, length_fingers limit (meaning net m))) in
-      cc
-
-  -- the first finger of the next module
-  pub folded_more : (before : List Mod) (m : Module K) (n : ℕ) (x : Mod) (after : List Mod) → before ≡ meaning net m ∷ after → n ≡ finger_count limit m.width.steps → 1 ≤ n → x ≡ finger n (meaning net m) 0 → folded_by limit before ≡ x ∷ (untold net limit (Some m) 1 ++ folded_by limit after)
-  folded_more before m n x after e c h t =
-      let step = fingers_more limit (meaning net m) 0 (omega arith) in
-      cc
+-- where no finger is left, a pass goes on to the first finger of the next module
+pub folded_next : {K : Type 0} (net : K → Net) (limit : ℕ) (left told others before after : List Mod) (m : Mod) (r : Option (Module K)) → left ≡ [] → before ≡ m ∷ after → 1 ≤ m.width → told ≡ fingers limit m → Steps net told r others → Steps net (left ++ folded_by limit before) r (others ++ folded_by limit after)
+folded_next net limit left told others before after m None none e low t s =
+    absurd (omega (arith, length_fingers limit m, count_least limit m.width low, ap length (sym t ∙ s.0)))
+folded_next net limit left told others before after m (Some x) none e low t s = cc

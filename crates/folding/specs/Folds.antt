@@ -1,9 +1,9 @@
 -- The fingers into which a folding layer cuts the modules below.
-use Rattle.std.specs.Prelude.{ℕ, ◌+◌, ◌/◌, ◌%◌, min, cond, List, [], ◌∷◌, ◌++◌, map, drop, Some, None, Option, ◌==◌, nat_lt}
+use Rattle.std.specs.Prelude.{ℕ, ◌+◌, ◌-◌, ◌/◌, ◌%◌, min, cond, List, [], ◌∷◌, ◌++◌, map, Some, None, Option, ◌==◌, nat_lt}
 use Rattle.std.specs.List.{range_with_len}
 use Rattle.net.specs.Nets.{Net}
-use Rattle.net.specs.declared.modules.Module.{Module}
 use Rattle.net.specs.Mods.{Mod, meaning}
+use Rattle.folding.specs.declared.fingers.Fingers.{Fingers}
 
 -- how many fingers a width becomes under a limit: width / limit, rounded up. The limit 0 folds nothing
 abbrev pub finger_count : ℕ → ℕ → ℕ
@@ -27,6 +27,10 @@ finger n m k = record {
   side = m.side;
 }
 
+-- the fingers of a module from finger k of n on
+abbrev pub fingers_from : ℕ → ℕ → Mod → List Mod
+fingers_from k n m = map (finger n m) (range_with_len k (n - k))
+
 -- the fingers of a module, from first to last
 abbrev pub fingers : ℕ → Mod → List Mod
 fingers limit m = map (finger (finger_count limit m.width) m) (range_with_len 0 (finger_count limit m.width))
@@ -36,7 +40,11 @@ abbrev pub folded_by : ℕ → List Mod → List Mod
 folded_by limit [] = []
 folded_by limit (m ∷ ms) = fingers limit m ++ folded_by limit ms
 
--- what is still to be told of the module under way, where one is, when so many of its fingers are told
-abbrev pub untold : {K : Type 0} → (K → Net) → ℕ → Option (Module K) → ℕ → List Mod
-untold net limit None told = []
-untold net limit (Some m) told = drop told (fingers limit (meaning net m))
+-- the fingers of a module that are still to be told
+abbrev pub untold : {K : Type 0} → (K → Net) → Fingers K → List Mod
+untold net f = fingers_from f.told f.count (meaning net f.whole)
+
+-- the same of the module under way, where one is
+abbrev pub under_way : {K : Type 0} → (K → Net) → Option (Fingers K) → List Mod
+under_way net None = []
+under_way net (Some f) = untold net f

@@ -1,12 +1,11 @@
 //! The layer and its passes.
 
 ghost use Rattle.std.specs.Prelude.{◌≡◌, ◌++◌};
-ghost use Rattle.circuit.specs.Tells.{Steps};
-ghost use Rattle.folding.specs.Folds.{folded_by, untold};
+ghost use Rattle.folding.specs.Folds.{folded_by, under_way};
 ghost use Rattle.folding.specs.Lawfuls.{folded_lawful};
 ghost use Rattle.folding.specs.Laws.{FoldsWell, FoldsTwins};
 
-use crate::cutting::{finger_count, finger_of};
+use crate::fingers::Fingers;
 use circuit::Circuit;
 use net::{Module, NetKey};
 
@@ -17,19 +16,19 @@ pub struct Folding<C> {
     limit: u16,
 }
 
-/// The cursor below, and the module under way with how many of its fingers are told.
+/// The cursor below, and the fingers of the module under way.
 #[derive(Copy)]
 #[derive_where(Clone; B, K: Copy)]
 pub struct FoldingCursor<B, K> {
     below: B,
-    current: Option<Module<K>>,
-    told: u16,
+    fingers: Option<Fingers<K>>,
 }
 
 impl<C: Circuit> Folding<C> {
     /// The layer over that circuit with that limit. Folding keeps the total width, and the fingers of twins of equal widths are twins.
     pub fn new(below: C, limit: u16) -> Folding<C>
-        ensures made { (result.below ≡ below) × (result.limit ≡ limit) }
+        ensures below { result.below ≡ below }
+        ensures limit { result.limit ≡ limit }
         ensures folds { FoldsWell limit (C.Circuit.list below) }
         ensures twins { FoldsTwins limit (C.Circuit.list below) }
     {
@@ -44,44 +43,25 @@ impl<C: Circuit> Circuit for Folding<C> {
 
     ghost list = { λ s. folded_by s.limit (C.Circuit.list s.below) };
 
-    ghost rest = { λ s cursor. untold C.Key.NetKey.net s.limit cursor.current cursor.told ++ folded_by s.limit (C.Circuit.rest s.below cursor.below) };
+    ghost rest = { λ s cursor. under_way C.Key.NetKey.net cursor.fingers ++ folded_by s.limit (C.Circuit.rest s.below cursor.below) };
 
     ghost lawful = { λ s. folded_lawful s.limit (C.Circuit.list s.below) (C.Circuit.lawful s.below) };
 
     fn begin(&self) -> FoldingCursor<C::Cursor, C::Key> {
         FoldingCursor {
             below: self.below.begin(),
-            current: None,
-            told: 0,
+            fingers: None,
         }
     }
 
     fn next(&self, cursor: &mut FoldingCursor<C::Cursor, C::Key>) -> Option<Module<C::Key>> {
-        if let Some(finger) = next_finger(self.limit, cursor) {
+        if let Some(fingers) = &mut cursor.fingers
+            && let Some(finger) = fingers.next()
+        {
             return Some(finger);
         }
         let m = self.below.next(&mut cursor.below)?;
-        let finger = finger_of(&m, finger_count(self.limit, m.width), 0);
-        cursor.current = Some(m);
-        cursor.told = 1;
-        Some(finger)
+        let fingers = Fingers::new(m, self.limit);
+        cursor.fingers.insert(fingers).next()
     }
-}
-
-/// The next finger of the module under way, or None where none is left of it.
-fn next_finger<B: Copy, K: NetKey>(
-    limit: u16,
-    cursor: &mut FoldingCursor<B, K>,
-) -> Option<Module<K>>
-    ensures step { Steps K.NetKey.net (untold K.NetKey.net limit cursor.old.current cursor.old.told) result (untold K.NetKey.net limit cursor.new.current cursor.new.told) }
-    ensures below { cursor.new.below ≡ cursor.old.below }
-{
-    let m = cursor.current?;
-    let n = finger_count(limit, m.width);
-    if cursor.told >= n {
-        return None;
-    }
-    let finger = finger_of(&m, n, cursor.told);
-    cursor.told += 1;
-    Some(finger)
 }

@@ -3,6 +3,7 @@
 #![tactic(auto)]
 
 mod cutting;
+mod fingers;
 mod layer;
 
 pub use layer::{Folding, FoldingCursor};

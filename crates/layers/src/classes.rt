@@ -28,7 +28,8 @@ pub type ClassLayer<C, K> = Filtered<C, Class<K>>;
 
 /// The layer over that circuit that keeps the class of `like`, which need not stand in the circuit.
 pub fn class_layer<C: Circuit>(below: C, like: Module<C::Key>) -> ClassLayer<C, C::Key>
-    ensures { (result.below ≡ below) × (result.test.like ≡ like) }
+    ensures below { result.below ≡ below }
+    ensures like { result.test.like ≡ like }
 {
     Filtered {
         below,

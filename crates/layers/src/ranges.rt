@@ -18,8 +18,7 @@ impl<K: NetKey> ModuleTest<K> for WidthRange {
     ghost passes = { λ s. in_widths s.lowest s.highest };
 
     fn test(&self, m: &Module<K>) -> bool {
-        let steps = m.width.steps();
-        (self.lowest <= steps) & (steps <= self.highest)
+        (self.lowest..=self.highest).contains(&m.width.steps())
     }
 }
 
@@ -28,7 +27,9 @@ pub type WidthLayer<C> = Filtered<C, WidthRange>;
 
 /// The layer over that circuit that keeps the widths from `lowest` to `highest`.
 pub fn width_layer<C: Circuit>(below: C, lowest: u16, highest: u16) -> WidthLayer<C>
-    ensures { (result.below ≡ below) × (result.test.lowest ≡ lowest) × (result.test.highest ≡ highest) }
+    ensures below { result.below ≡ below }
+    ensures lowest { result.test.lowest ≡ lowest }
+    ensures highest { result.test.highest ≡ highest }
 {
     Filtered {
         below,

@@ -14,7 +14,9 @@ use net::Module;
 impl<C: Circuit> HousePile<C, C::Key> {
     /// The house pile over that circuit, folded with that limit, for the class of `like`, which need not stand in the circuit.
     pub fn new(circuit: C, limit: u16, like: Module<C::Key>) -> HousePile<C, C::Key>
-        ensures made { (circuit_of result ≡ circuit) × (limit_of result ≡ limit) × (like_of result ≡ like) }
+        ensures circuit { circuit_of result ≡ circuit }
+        ensures limit { limit_of result ≡ limit }
+        ensures like { like_of result ≡ like }
         ensures tells { house_pile (limit_of result) (meaning C.Key.NetKey.net (like_of result)) (C.Circuit.list (circuit_of result)) ≡ house_pile limit (meaning C.Key.NetKey.net like) (C.Circuit.list circuit) }
     {
         let fingers = Folding::new(circuit, limit);
@@ -31,7 +33,7 @@ impl<C: Circuit> Circuit for HousePile<C, C::Key> {
 
     ghost list = { λ h. house_pile (limit_of h) (meaning C.Key.NetKey.net (like_of h)) (C.Circuit.list (circuit_of h)) };
 
-    ghost rest = { λ h cursor. pile_rest C.Key.NetKey.net (limit_of h) (like_of h) cursor.current cursor.told (C.Circuit.rest (circuit_of h) cursor.below) };
+    ghost rest = { λ h cursor. pile_rest C.Key.NetKey.net (limit_of h) (like_of h) cursor.fingers (C.Circuit.rest (circuit_of h) cursor.below) };
 
     ghost lawful = { λ h. pile_lawful (limit_of h) (meaning C.Key.NetKey.net (like_of h)) (C.Circuit.list (circuit_of h)) (C.Circuit.lawful (circuit_of h)) };
 

@@ -1,17 +1,11 @@
 -- What is left of a row where a pass begins, and where it goes on to the next instance.
 use Rattle.std.proofs.Common.{◌≡◌, ℕ, zero, suc, ◌+◌, ◌-◌, ◌<◌, List, [], ◌++◌, map, sym, refl, ap, ◌∙◌, arith}
 use Rattle.net.specs.Mods.{Mod}
-use Rattle.row.specs.Rows.{as_instance, instances_from, instances_left, narrow_front, row_rest, row_told}
+use Rattle.row.specs.Rows.{as_instance, instances_from, instances_left, narrow_front, row_rest}
 
 left_whole : (k n : ℕ) (ms : List Mod) → instances_left k n ms ms ≡ instances_from k n ms
 left_whole k zero ms = refl
 left_whole k (suc n) ms = refl
-
--- before the first module all is left
-pub rest_begun : (told : ℕ) (left ms : List Mod) → left ≡ ms → row_rest 1048320 0 told left ms ≡ row_told told ms
-rest_begun told left ms b =
-    let z : told - 0 ≡ told = omega arith in
-    ap (narrow_front 1048320) (ap (λ n. instances_left 0 n left ms) z ∙ ap (λ l. instances_left 0 told l ms) b ∙ left_whole 0 told ms)
 
 -- an instance is told, and the next begins
 pub rest_over : (room k told : ℕ) (left fresh ms : List Mod) → k < told → left ≡ [] → fresh ≡ ms → row_rest room k told left ms ≡ row_rest room (k + 1) told fresh ms

@@ -36,6 +36,7 @@ impl<C: Circuit<Key = NumberKey>> Circuit for Row<C> {
         }
     }
 
+    #[tactic(auto, using(crate::proofs::Steps::rest_over))]
     fn next(&self, cursor: &mut RowCursor<C::Cursor>) -> Option<Module<InstanceKey>> {
         while cursor.instance < self.told {
             if let Some(m) = self.cell.next(&mut cursor.cell) {
@@ -61,26 +62,20 @@ fn room_behind(room: u32, m: &Module<NumberKey>) -> Option<u32>
     room.checked_sub(u32::from(m.width.steps()))
 }
 
-/// The net of that number as one of the instance.
-fn key_at(instance: u8, key: NumberKey) -> InstanceKey
-    ensures { (result.instance ≡ instance) × (result.number ≡ key.0) }
-{
-    InstanceKey {
-        instance,
-        number: key.0,
-    }
-}
-
 /// The module as one of the instance.
 fn at_instance(instance: u8, m: &Module<NumberKey>) -> Module<InstanceKey>
     ensures { instance_told result ≡ as_instance instance (number_told m.now) }
 {
+    let key = |net: NumberKey| InstanceKey {
+        instance,
+        number: net.0,
+    };
     Module {
         kind: m.kind,
-        body: key_at(instance, m.body),
-        gate: key_at(instance, m.gate),
-        source: key_at(instance, m.source),
-        drain: key_at(instance, m.drain),
+        body: key(m.body),
+        gate: key(m.gate),
+        source: key(m.source),
+        drain: key(m.drain),
         width: m.width,
         tag: m.tag,
         pairing: m.pairing,

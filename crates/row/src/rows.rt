@@ -33,6 +33,7 @@ impl<C: Copy> Clone for Row<C> {
 
 impl<C: Circuit<Key = NumberKey>> Row<C> {
     /// The row of so many instances of the cell. It tells nothing if these are more than 16, or wider in all than a circuit may be. The cell is read once here.
+    #[tactic(auto, using(crate::proofs::Fits::told_row))]
     pub fn new(cell: C, instances: u16) -> Row<C>
         ensures tells { row_told result.told (C.Circuit.list result.cell) ≡ row_of instances (C.Circuit.list cell) }
         ensures cell { result.cell ≡ cell }

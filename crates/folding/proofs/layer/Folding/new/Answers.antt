@@ -6,4 +6,4 @@ use Rattle.folding.proofs.layer.Folding.new.Goals as goal
 pub returns : goal.returns
 returns g c =
     let ms = g.C.Circuit.list c.args.below in
-    record { made = (refl, refl); folds = folds_well c.args.limit ms (g.C.Circuit.lawful c.args.below).each; twins = folds_twins c.args.limit ms }
+    record { below = refl; limit = refl; folds = folds_well c.args.limit ms (g.C.Circuit.lawful c.args.below).each; twins = folds_twins c.args.limit ms }

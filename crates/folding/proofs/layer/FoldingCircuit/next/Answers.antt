@@ -1,11 +1,13 @@
-use Rattle.std.proofs.Common.{◌++◌, sym, ap, ◌∙◌}
-use Rattle.folding.specs.Folds.{folded_by}
-use Rattle.folding.proofs.Steps.{folded_more}
+use Rattle.std.proofs.Common.{◌≡◌, [], rules, ap, ◌∙◌}
+use Rattle.folding.specs.Folds.{untold, under_way}
+use Rattle.folding.proofs.Steps.{folded_next}
 use Rattle.folding.proofs.layer.FoldingCircuit.next.Goals as goal
 
-pub returns : goal.returns
-returns g c =
-    let self = c.args.self.now in
-    let below = g.C.Circuit.rest self.below in
-    let past = c.in_default.ensures in
-    ap (λ xs. xs ++ folded_by self.limit (below c.args.cursor.now.below)) past.step.0 ∙ folded_more g.C.Key.NetKey.net self.limit _ c.in_ok-m.m c.finger_count.result _ _ (ap below (sym past.below) ∙ c.in_ok-m.ensures) c.finger_count.ensures.count c.finger_count.ensures.least c.finger_of-finger.ensures
+pub returns-2 : goal.returns-2
+returns-2 g c =
+    let net = g.C.Key.NetKey.net in
+    let cursor = c.args.cursor.now in
+    let below = g.C.Circuit.rest c.args.self.now.below in
+    let none : under_way net cursor.fingers ≡ [] = search rules in
+    let same : below cursor.below ≡ below c.in_default.cursor.below = search rules in
+    folded_next net c.args.self.now.limit _ _ _ _ _ _ c.next-3.result none (same ∙ c.in_ok-m.ensures) c.in_ok-m.m.width.least (ap (untold net) c.insert.ensures.value ∙ c.new-fingers.ensures.all) c.next-3.ensures.steps

@@ -1,0 +1,79 @@
+//! The fingers of one module, told from first to last.
+
+ghost use Rattle.std.specs.Prelude.{◌≡◌, ◌≤◌};
+ghost use Rattle.net.specs.Mods.{meaning};
+
+use crate::cutting::finger_count;
+use net::{Module, NetKey, Width};
+use std::alloc::AllocError;
+
+/// The fingers of a module that are still to be told.
+#[derive(Copy)]
+pub(crate) struct Fingers<K> {
+    whole: Module<K>,
+    count: u16,
+    told: u16,
+    ghost some: { 1 ≤ count },
+    ghost narrow: { count ≤ whole.width.steps },
+}
+
+impl<K: Copy> Clone for Fingers<K> {
+    ghost is_clone = { λ x y. y ≡ x };
+
+    ghost is_infallible = { λ _. Unit {0} };
+
+    fn clone(&self) -> Result<Fingers<K>, AllocError> {
+        Ok(*self)
+    }
+}
+
+impl<K: NetKey> Fingers<K> {
+    ghost use Rattle.folding.specs.Folds.{finger_width, fingers, untold};
+
+    /// All fingers of the module under that limit.
+    pub(crate) fn new(whole: Module<K>, limit: u16) -> Fingers<K>
+        ensures all { untold K.NetKey.net result ≡ fingers limit (meaning K.NetKey.net whole) }
+    {
+        Fingers {
+            count: finger_count(limit, whole.width),
+            whole,
+            told: 0,
+        }
+    }
+
+    /// The width of the next finger.
+    fn width(&self) -> Width
+        ensures { result.steps ≡ finger_width self.now.count self.now.told self.now.whole.width.steps }
+    {
+        let steps = self.whole.width.steps();
+        let wider = u16::from(self.told < steps % self.count);
+        match Width::new(steps / self.count + wider) {
+            Some(narrow) => narrow,
+            None => unreachable(),
+        }
+    }
+}
+
+impl<K: NetKey> Iterator for Fingers<K> {
+    ghost use Rattle.std.specs.Iterator.{YieldsFirstBy, item_count};
+    ghost use Rattle.folding.specs.Folds.{untold};
+
+    type Item = Module<K>;
+
+    ghost next_gives = { YieldsFirstBy (meaning K.NetKey.net) (untold K.NetKey.net) };
+
+    ghost remaining = { item_count (untold K.NetKey.net) };
+
+    #[tactic(auto, using(crate::proofs::Steps::fingers_more, crate::proofs::Steps::fingers_none))]
+    fn next(&mut self) -> Option<Module<K>> {
+        if self.told >= self.count {
+            return None;
+        }
+        let width = self.width();
+        self.told += 1;
+        Some(Module {
+            width,
+            ..self.whole
+        })
+    }
+}
