@@ -1,9 +1,12 @@
 -- The fingers of twins are twins, in their order, and no other fingers are.
-use Rattle.std.proofs.Common.{◌≡◌, ℕ, zero, suc, ◌+◌, ◌-◌, ◌<◌, ◌≤◌, Bool, true, false, cond, ◌⊎◌, List, [], ◌∷◌, ◌++◌, map, length, take, Some, None, Option, sym, refl, ap, ◌∙◌, ap₂, inl, inr, zero-add, arith, length-append}
-use Rattle.std.specs.List.{slice_get, range_with_len}
+use Rattle.std.proofs.Common.{◌≡◌, ℕ, zero, suc, ◌+◌, ◌-◌, ◌<◌, ◌≤◌, Bool, true, false, cond, ◌⊎◌, List, [], ◌∷◌, ◌++◌, map, length, take, Some, sym, refl, ap, ◌∙◌, ap₂, inl, inr, arith, length-append, append_assoc}
+use Rattle.std.specs.List.{slice_get, range_with_len, flat_map}
+use Rattle.std.specs.Option.{option_map_or}
+use Rattle.std.proofs.Math.Seq.{take-append_seam}
 use Rattle.std.proofs.lemmas.List.FromFn.{length-range_with_len}
 use Rattle.std.proofs.lemmas.Option.{slice_get-get_or}
 use Rattle.std.proofs.lemmas.Bool.{cases_lt}
+use Rattle.std.proofs.lemmas.Grind.{common_steps}
 use Rattle.net.specs.Mods.{Mod}
 use Rattle.net.specs.declared.modules.Side.{Side}
 use Rattle.net.specs.declared.modules.Side.TheVariants.{Left, Right}
@@ -12,7 +15,7 @@ use Rattle.folding.specs.Folds.{finger_count, finger_width, finger, fingers, fol
 use Rattle.folding.specs.Laws.{finger_position, FingersOfTwins, FoldsTwins}
 use Rattle.folding.proofs.Steps.{length_fingers, finger_at}
 
--- `nth` of two lists, one behind the other
+-- What stands at an index of two lists, one behind the other, and of numbers in a row
 
 nth_front : {X : Type 0} (xs ys : List X) (i : ℕ) → i < length xs → slice_get (xs ++ ys) i ≡ slice_get xs i
 nth_front [] ys i h = absurd (omega arith)
@@ -35,264 +38,230 @@ finger_place : (limit : ℕ) (ms : List Mod) (p k : ℕ) (m : Mod) → slice_get
 finger_place limit [] p k m e h = cc
 finger_place limit (x ∷ ms) zero k m e h =
     let same : x ≡ m = cc in
-    let inside : k < length (fingers limit m) = omega (arith, length_fingers limit m) in
-    ap (λ y. slice_get (fingers limit y ++ folded_by limit ms) (0 + k)) same ∙ ap (slice_get (fingers limit m ++ folded_by limit ms)) (omega arith) ∙ nth_front (fingers limit m) (folded_by limit ms) k inside ∙ slice_get-get_or (fingers limit m) k m inside ∙ ap (λ y. Some y) (finger_at limit m k h)
+    let finger_k = finger_at limit m k h in
+    grind (arith, common_steps, length_fingers limit m, nth_front (fingers limit m) (folded_by limit ms) k, slice_get-get_or (fingers limit m) k m)
 finger_place limit (x ∷ ms) (suc p) k m e h =
-    nth_behind (fingers limit x) (folded_by limit ms) (finger_position limit ms p k) (finger_position limit (x ∷ ms) (suc p) k) (omega (arith, length-append (fingers limit x) (folded_by limit (take p ms)))) ∙ finger_place limit ms p k m e h
+    grind (arith, common_steps, nth_behind (fingers limit x) (folded_by limit ms) (finger_position limit ms p k), finger_place limit ms p k m e h, length-append)
 
 -- The positions of fingers come in runs, one for each module
 
-record Run : Type 0 where
-  start : ℕ
-  count : ℕ
+module _ (start count : ℕ → ℕ) where
+  -- the positions of the fingers of the module at p
+  abbrev run : ℕ → List ℕ
+  run p = range_with_len (start p) (count p)
 
-abbrev spread : List Run → List ℕ
-spread [] = []
-spread (r ∷ rs) = range_with_len r.start r.count ++ spread rs
+  -- an index in the first run, and one behind it
+  run_here : (p k : ℕ) (others : List ℕ) → k < count p → slice_get (run p ++ others) k ≡ Some (start p + k)
+  run_here p k others h = nth_front (run p) others k (omega (arith, length-range_with_len (start p) (count p))) ∙ nth_counting (start p) (count p) k h
 
--- nothing behind the end, so that a run and a position are there or not at the same index
-impossible : {P : Type 0} {X : Type 0} (x : X) → None ≡ Some x → P
-impossible x e = let z : ◌≡◌ {A = ℕ} 0 1 = cc in absurd (omega arith)
+  run_behind : (p i j : ℕ) (others : List ℕ) → j ≡ count p + i → slice_get (run p ++ others) j ≡ slice_get others i
+  run_behind p i j others e = nth_behind (run p) others i j (omega (arith, length-range_with_len (start p) (count p)))
 
-record Common (xs ys : List Run) (a b : Run) (k : ℕ) : Type 0 where
-  index : ℕ
-  first : slice_get (spread xs) index ≡ Some (a.start + k)
-  second : slice_get (spread ys) index ≡ Some (b.start + k)
+  -- modules at one index have as many fingers
+  abbrev Even : List ℕ → List ℕ → Type 0
+  Even ps qs = (j p q : ℕ) → slice_get ps j ≡ Some p → slice_get qs j ≡ Some q → count p ≡ count q
 
--- runs at one index have one length
-abbrev Even : List Run → List Run → Type 0
-Even xs ys = (j : ℕ) (a b : Run) → slice_get xs j ≡ Some a → slice_get ys j ≡ Some b → a.count ≡ b.count
+  -- left and right stand at one index of the two lists of runs
+  record Common (ps qs : List ℕ) (left right : ℕ) : Type 0 where
+    index : ℕ
+    first : slice_get (flat_map run ps) index ≡ Some left
+    second : slice_get (flat_map run qs) index ≡ Some right
 
--- in such lists of runs, what stands at one place of the runs at one index stands at one index
-in_common : (xs ys : List Run) → Even xs ys → (j k : ℕ) (a b : Run) → slice_get xs j ≡ Some a → slice_get ys j ≡ Some b → k < a.count → Common xs ys a b k
-in_common [] ys even j k a b e f h = impossible a e
-in_common (x ∷ xs) [] even j k a b e f h = impossible b f
-in_common (x ∷ xs) (y ∷ ys) even zero k a b e f h =
-    let p : x ≡ a = cc in
-    let q : y ≡ b = cc in
-    let level = even 0 a b e f in
-    let front : slice_get (spread (a ∷ xs)) k ≡ Some (a.start + k) = nth_front (range_with_len a.start a.count) (spread xs) k (omega (arith, length-range_with_len a.start a.count)) ∙ nth_counting a.start a.count k h in
-    let front' : slice_get (spread (b ∷ ys)) k ≡ Some (b.start + k) = nth_front (range_with_len b.start b.count) (spread ys) k (omega (arith, length-range_with_len b.start b.count)) ∙ nth_counting b.start b.count k (omega arith) in
-    record { index = k; first = ap (λ r. slice_get (spread (r ∷ xs)) k) p ∙ front; second = ap (λ r. slice_get (spread (r ∷ ys)) k) q ∙ front' }
-in_common (x ∷ xs) (y ∷ ys) even (suc j) k a b e f h =
-    let more = in_common xs ys (λ i. even (suc i)) j k a b e f h in
-    let level = even 0 x y refl refl in
-    record {
-      index = x.count + more.index;
-      first = nth_behind (range_with_len x.start x.count) (spread xs) more.index (x.count + more.index) (omega (arith, length-range_with_len x.start x.count)) ∙ more.first;
-      second = nth_behind (range_with_len y.start y.count) (spread ys) more.index (x.count + more.index) (omega (arith, length-range_with_len y.start y.count)) ∙ more.second;
-    }
+  -- then fingers k of the modules at one index stand at one index
+  in_common : (ps qs : List ℕ) → Even ps qs → (j k p q : ℕ) → slice_get ps j ≡ Some p → slice_get qs j ≡ Some q → k < count p → Common ps qs (start p + k) (start q + k)
+  in_common [] qs even j k p q e f h = cc
+  in_common (x ∷ ps) [] even j k p q e f h = cc
+  in_common (x ∷ ps) (y ∷ qs) even zero k p q e f h =
+      let xp : x ≡ p = cc in
+      let yq : y ≡ q = cc in
+      record {
+        index = k;
+        first = ap (λ r. slice_get (run r ++ flat_map run ps) k) xp ∙ run_here p k (flat_map run ps) h;
+        second = ap (λ r. slice_get (run r ++ flat_map run qs) k) yq ∙ run_here q k (flat_map run qs) (omega (arith, even 0 p q e f));
+      }
+  in_common (x ∷ ps) (y ∷ qs) even (suc j) k p q e f h =
+      let more = in_common ps qs (λ i. even (suc i)) j k p q e f h in
+      record {
+        index = count x + more.index;
+        first = run_behind x more.index (count x + more.index) (flat_map run ps) refl ∙ more.first;
+        second = run_behind y more.index (count x + more.index) (flat_map run qs) (omega (arith, even 0 x y refl refl)) ∙ more.second;
+      }
 
-record Within (xs ys : List Run) (left right : ℕ) : Type 0 where
-  index : ℕ
-  k : ℕ
-  a : Run
-  b : Run
-  run : slice_get xs index ≡ Some a
-  other : slice_get ys index ≡ Some b
-  inside : k < a.count
-  first : left ≡ a.start + k
-  second : right ≡ b.start + k
+  -- left and right are fingers k of the modules at one index
+  record Within (ps qs : List ℕ) (left right : ℕ) : Type 0 where
+    index : ℕ
+    p : ℕ
+    q : ℕ
+    k : ℕ
+    here : slice_get ps index ≡ Some p
+    there : slice_get qs index ≡ Some q
+    inside : k < count p
+    first : left ≡ start p + k
+    second : right ≡ start q + k
 
-same : {X : Type 0} {x y : X} (o : Option X) → o ≡ Some x → o ≡ Some y → x ≡ y
-same o e f = cc
+  -- and the other way round
+  from_common : (ps qs : List ℕ) → Even ps qs → (i left right : ℕ) → slice_get (flat_map run ps) i ≡ Some left → slice_get (flat_map run qs) i ≡ Some right → Within ps qs left right
+  from_common [] qs even i left right e f = cc
+  from_common (x ∷ ps) [] even i left right e f = cc
+  from_common (x ∷ ps) (y ∷ qs) even i left right e f = go (cases_lt i (count x)) (from_common ps qs (λ j. even (suc j)) (i - count x) left right)
+    where
+      level : count x ≡ count y
+      level = even 0 x y refl refl
 
--- and the other way round
-from_common : (xs ys : List Run) → Even xs ys → (i left right : ℕ) → slice_get (spread xs) i ≡ Some left → slice_get (spread ys) i ≡ Some right → Within xs ys left right
-from_common [] ys even i left right e f = impossible left e
-from_common (x ∷ xs) [] even i left right e f = impossible right f
-from_common (x ∷ xs) (y ∷ ys) even i left right e f = go (cases_lt i x.count) (from_common xs ys (λ j. even (suc j)) (i - x.count) left right)
-  where
-    level : x.count ≡ y.count
-    level = even 0 x y refl refl
+      go : (i < count x) ⊎ (count x ≤ i) → (slice_get (flat_map run ps) (i - count x) ≡ Some left → slice_get (flat_map run qs) (i - count x) ≡ Some right → Within ps qs left right) → Within (x ∷ ps) (y ∷ qs) left right
+      go (inl h) more =
+          let here = run_here x i (flat_map run ps) h in
+          let there = run_here y i (flat_map run qs) (omega (arith, level)) in
+          record { index = 0; p = x; q = y; k = i; here = refl; there = refl; inside = h; first = cc; second = cc }
+      go (inr h) more =
+          let here = run_behind x (i - count x) i (flat_map run ps) (omega arith) in
+          let there = run_behind y (i - count x) i (flat_map run qs) (omega (arith, level)) in
+          let w = more (sym here ∙ e) (sym there ∙ f) in
+          record { index = suc w.index; p = w.p; q = w.q; k = w.k; here = w.here; there = w.there; inside = w.inside; first = w.first; second = w.second }
 
-    go : (i < x.count) ⊎ (x.count ≤ i) → (slice_get (spread xs) (i - x.count) ≡ Some left → slice_get (spread ys) (i - x.count) ≡ Some right → Within xs ys left right) → Within (x ∷ xs) (y ∷ ys) left right
-    go (inl h) more =
-        let here = nth_front (range_with_len x.start x.count) (spread xs) i (omega (arith, length-range_with_len x.start x.count)) ∙ nth_counting x.start x.count i h in
-        let there = nth_front (range_with_len y.start y.count) (spread ys) i (omega (arith, level, length-range_with_len y.start y.count)) ∙ nth_counting y.start y.count i (omega (arith, level)) in
-        record { index = 0; k = i; a = x; b = y; run = refl; other = refl; inside = h; first = same _ e here; second = same _ f there }
-    go (inr h) more =
-        let here = nth_behind (range_with_len x.start x.count) (spread xs) (i - x.count) i (omega (arith, length-range_with_len x.start x.count)) in
-        let there = nth_behind (range_with_len y.start y.count) (spread ys) (i - x.count) i (omega (arith, level, length-range_with_len y.start y.count)) in
-        let w = more (sym here ∙ e) (sym there ∙ f) in
-        record { index = suc w.index; k = w.k; a = w.a; b = w.b; run = w.run; other = w.other; inside = w.inside; first = w.first; second = w.second }
+-- Where the module at p has its fingers in the folded list, and how many
 
--- a position and a run at an index of two lists, of which P holds; or neither list goes so far
-record Found (P : ℕ → Run → Type 0) (ps : List ℕ) (rs : List Run) (j : ℕ) : Type 0 where
-  p : ℕ
-  r : Run
-  position : slice_get ps j ≡ Some p
-  run : slice_get rs j ≡ Some r
-  site : P p r
+abbrev first_finger : ℕ → List Mod → ℕ → ℕ
+first_finger limit ms p = length (folded_by limit (take p ms))
 
-abbrev Looked : (ℕ → Run → Type 0) → List ℕ → List Run → ℕ → Type 0
-Looked P ps rs j = ((slice_get ps j ≡ None) × (slice_get rs j ≡ None)) ⊎ Found P ps rs j
+abbrev count_at : ℕ → List Mod → ℕ → ℕ
+count_at limit ms p = option_map_or (λ (m : Mod). finger_count limit m.width) (slice_get ms p) 0
 
-looked_like : (P Q : ℕ → Run → Type 0) (ps : List ℕ) (rs : List Run) → ((p : ℕ) (r : Run) → P p r → Q p r) → (j : ℕ) → Looked P ps rs j → Looked Q ps rs j
-looked_like P Q ps rs more j (inl h) = inl h
-looked_like P Q ps rs more j (inr f) = inr (record { p = f.p; r = f.r; position = f.position; run = f.run; site = more f.p f.r f.site })
+-- where module m stands at p, they are as many as its width becomes
+count_is : (limit : ℕ) (ms : List Mod) (p : ℕ) (m : Mod) → slice_get ms p ≡ Some m → count_at limit ms p ≡ finger_count limit m.width
+count_is limit ms p m e = ap (λ x. option_map_or (λ (y : Mod). finger_count limit y.width) x 0) e
+
+-- lists are folded one behind the other
+folded_length : (limit : ℕ) (xs ys : List Mod) → length (folded_by limit (xs ++ ys)) ≡ length (folded_by limit xs) + length (folded_by limit ys)
+folded_length limit [] ys = grind (arith, common_steps)
+folded_length limit (x ∷ xs) ys = grind (arith, common_steps, folded_length limit xs ys)
 
 -- The positions on one side of a pair number, in the list and in the folded list
 
-module _ (limit number : ℕ) (side : Side) where
+module _ (number : ℕ) (side : Side) where
+  -- the positions in two lists, one behind the other
   positions_append : (o : ℕ) (xs ys : List Mod) → positions_on number side o (xs ++ ys) ≡ positions_on number side o xs ++ positions_on number side (o + length xs) ys
-  positions_append o [] ys = ap (λ i. positions_on number side i ys) (omega arith)
-  positions_append o (x ∷ xs) ys =
-      let next : o + 1 + length xs ≡ o + length (x ∷ xs) = omega arith in
-      go (stands_on number side x) (positions_append (o + 1) xs ys ∙ ap (λ i. positions_on number side (o + 1) xs ++ positions_on number side i ys) next)
-    where
-      go : (b : Bool) → positions_on number side (o + 1) (xs ++ ys) ≡ positions_on number side (o + 1) xs ++ positions_on number side (o + length (x ∷ xs)) ys → cond b (o ∷ positions_on number side (o + 1) (xs ++ ys)) (positions_on number side (o + 1) (xs ++ ys)) ≡ cond b (o ∷ positions_on number side (o + 1) xs) (positions_on number side (o + 1) xs) ++ positions_on number side (o + length (x ∷ xs)) ys
-      go true e = ap (λ ps. o ∷ ps) e
-      go false e = e
+  positions_append o [] ys = grind (arith, common_steps)
+  positions_append o (x ∷ xs) ys = grind (arith, common_steps, positions_append (o + 1) xs ys)
 
   -- all fingers of a module stand on its side, or none
   positions_fingers : (m : Mod) (n o k j : ℕ) → positions_on number side o (map (finger n m) (range_with_len k j)) ≡ cond (stands_on number side m) (range_with_len o j) []
-  positions_fingers m n o k zero = go (stands_on number side m)
-    where
-      go : (b : Bool) → ◌≡◌ {A = List ℕ} [] (cond b [] [])
-      go true = refl
-      go false = refl
-  positions_fingers m n o k (suc j) = go (stands_on number side m) (positions_fingers m n (o + 1) (k + 1) j)
-    where
-      go : (b : Bool) → positions_on number side (o + 1) (map (finger n m) (range_with_len (k + 1) j)) ≡ cond b (range_with_len (o + 1) j) [] → cond b (o ∷ positions_on number side (o + 1) (map (finger n m) (range_with_len (k + 1) j))) (positions_on number side (o + 1) (map (finger n m) (range_with_len (k + 1) j))) ≡ cond b (o ∷ range_with_len (o + 1) j) []
-      go true e = ap (λ ps. o ∷ ps) e
-      go false e = e
+  positions_fingers m n o k zero = grind (arith, common_steps)
+  positions_fingers m n o k (suc j) = grind (arith, common_steps, positions_fingers m n (o + 1) (k + 1) j)
 
-  -- the runs of the fingers in a folded list whose first position is o
-  abbrev runs_on : ℕ → List Mod → List Run
-  runs_on o [] = []
-  runs_on o (m ∷ ms) = cond (stands_on number side m) (record { start = o; count = finger_count limit m.width } ∷ runs_on (o + finger_count limit m.width) ms) (runs_on (o + finger_count limit m.width) ms)
-
-  positions_folded : (o : ℕ) (ms : List Mod) → positions_on number side o (folded_by limit ms) ≡ spread (runs_on o ms)
-  positions_folded o [] = refl
-  positions_folded o (m ∷ ms) =
-      positions_append o (fingers limit m) (folded_by limit ms) ∙ ap₂ (λ xs ys. xs ++ ys) (positions_fingers m n o 0 n) (ap (λ i. positions_on number side (o + i) (folded_by limit ms)) (length_fingers limit m) ∙ positions_folded (o + n) ms) ∙ go (stands_on number side m)
-    where
-      n : ℕ
-      n = finger_count limit m.width
-
-      go : (b : Bool) → cond b (range_with_len o n) [] ++ spread (runs_on (o + n) ms) ≡ spread (cond b (record { start = o; count = n } ∷ runs_on (o + n) ms) (runs_on (o + n) ms))
-      go true = refl
-      go false = refl
-
-  -- position and run are those of one module: its first finger stands at the start
-  record Site (o i : ℕ) (ms : List Mod) (p : ℕ) (r : Run) : Type 0 where
+  -- the module that stands at a position
+  record Site (o : ℕ) (ms : List Mod) (p : ℕ) : Type 0 where
     at : ℕ
     m : Mod
-    place : p ≡ i + at
+    place : p ≡ o + at
     here : slice_get ms at ≡ Some m
-    start : r.start ≡ o + length (folded_by limit (take at ms))
-    count : r.count ≡ finger_count limit m.width
 
-  later : (x : Mod) (o i : ℕ) (ms : List Mod) (p : ℕ) (r : Run) → Site (o + finger_count limit x.width) (i + 1) ms p r → Site o i (x ∷ ms) p r
-  later x o i ms p r s =
-      record { at = suc s.at; m = s.m; place = omega (arith, s.place); here = s.here; start = omega (arith, s.start, length-append (fingers limit x) (folded_by limit (take s.at ms)), length_fingers limit x); count = s.count }
-
-  -- at each index there are a position and a run of one module, or neither
-  looked : (o i : ℕ) (ms : List Mod) (j : ℕ) → Looked (Site o i ms) (positions_on number side i ms) (runs_on o ms) j
-  looked o i [] j = inl (refl, refl)
-  looked o i (x ∷ ms) j = go (stands_on number side x) j (λ j'. looked_like (Site (o + n) (i + 1) ms) (Site o i (x ∷ ms)) ps rs (later x o i ms) j' (looked (o + n) (i + 1) ms j'))
+  site : (o : ℕ) (ms : List Mod) (j p : ℕ) → slice_get (positions_on number side o ms) j ≡ Some p → Site o ms p
+  site o [] j p e = cc
+  site o (x ∷ ms) j p e = go (stands_on number side x) j e (λ i h. let s = site (o + 1) ms i p h in record { at = suc s.at; m = s.m; place = omega (arith, s.place); here = s.here })
     where
-      n : ℕ
-      n = finger_count limit x.width
+      others : List ℕ
+      others = positions_on number side (o + 1) ms
 
-      ps : List ℕ
-      ps = positions_on number side (i + 1) ms
+      go : (b : Bool) (j : ℕ) → slice_get (cond b (o ∷ others) others) j ≡ Some p → ((i : ℕ) → slice_get others i ≡ Some p → Site o (x ∷ ms) p) → Site o (x ∷ ms) p
+      go true zero e later = let op : o ≡ p = cc in record { at = 0; m = x; place = omega (arith, op); here = refl }
+      go true (suc j) e later = later j e
+      go false j e later = later j e
 
-      rs : List Run
-      rs = runs_on (o + n) ms
+  standing : (ms : List Mod) (p : ℕ) (s : Site 0 ms p) → slice_get ms p ≡ Some s.m
+  standing ms p s = ap (slice_get ms) (omega (arith, s.place)) ∙ s.here
 
-      first : Run
-      first = record { start = o; count = n }
+  module _ (limit : ℕ) (all : List Mod) where
+    abbrev runs : List ℕ → List ℕ
+    runs ps = flat_map (run (first_finger limit all) (count_at limit all)) ps
 
-      here : Site o i (x ∷ ms) i first
-      here = record { at = 0; m = x; place = omega arith; here = refl; start = omega arith; count = refl }
-
-      go : (b : Bool) (j : ℕ) → ((j' : ℕ) → Looked (Site o i (x ∷ ms)) ps rs j') → Looked (Site o i (x ∷ ms)) (cond b (i ∷ ps) ps) (cond b (first ∷ rs) rs) j
-      go true zero more = inr (record { p = i; r = first; position = refl; run = refl; site = here })
-      go true (suc j) more = elim (more j) [ inl h ↦ inl h | inr f ↦ inr (record { p = f.p; r = f.r; position = f.position; run = f.run; site = f.site }) ]
-      go false j more = more j
-
-  abbrev Here : List Mod → ℕ → Type 0
-  Here ms j = Found (Site 0 0 ms) (positions_on number side 0 ms) (runs_on 0 ms) j
-
-  at_position : (ms : List Mod) (j p : ℕ) → slice_get (positions_on number side 0 ms) j ≡ Some p → Here ms j
-  at_position ms j p e = elim (looked 0 0 ms j) [ inl h ↦ impossible p (sym h.0 ∙ e) | inr f ↦ f ]
-
-  at_run : (ms : List Mod) (j : ℕ) (r : Run) → slice_get (runs_on 0 ms) j ≡ Some r → Here ms j
-  at_run ms j r e = elim (looked 0 0 ms j) [ inl h ↦ impossible r (sym h.1 ∙ e) | inr f ↦ f ]
-
-  -- the module at the position
-  standing : (ms : List Mod) (j : ℕ) (f : Here ms j) → slice_get ms f.p ≡ Some f.site.m
-  standing ms j f = let s = f.site in ap (slice_get ms) (omega (arith, s.place)) ∙ s.here
+    -- the positions in the folded list are the runs of those in the list
+    positions_folded : (before ms : List Mod) → all ≡ before ++ ms → positions_on number side (length (folded_by limit before)) (folded_by limit ms) ≡ runs (positions_on number side (length before) ms)
+    positions_folded before [] e = refl
+    positions_folded before (m ∷ ms) e =
+        let o = length (folded_by limit before) in
+        let n = finger_count limit m.width in
+        let at = length before in
+        let others = positions_on number side (at + 1) ms in
+        let next : length (folded_by limit (before ++ m ∷ [])) ≡ o + length (fingers limit m) = omega (arith, folded_length limit before (m ∷ []), length-append (fingers limit m) []) in
+        let more : positions_on number side (o + length (fingers limit m)) (folded_by limit ms) ≡ runs others = ap (λ i. positions_on number side i (folded_by limit ms)) (sym next) ∙ positions_folded (before ++ m ∷ []) ms (e ∙ sym (append_assoc before (m ∷ []) ms)) ∙ ap (λ i. runs (positions_on number side i ms)) (length-append before (m ∷ [])) in
+        let first : first_finger limit all at ≡ o = ap (λ xs. length (folded_by limit xs)) (ap (take at) e ∙ take-append_seam before (m ∷ ms)) in
+        let it : slice_get all at ≡ Some m = ap (λ xs. slice_get xs at) e ∙ nth_behind before (m ∷ ms) 0 at (omega arith) in
+        let count : count_at limit all at ≡ n = count_is limit all at m it in
+        let here : range_with_len o n ≡ run (first_finger limit all) (count_at limit all) at = ap₂ range_with_len (sym first) (sym count) in
+        positions_append o (fingers limit m) (folded_by limit ms) ∙ ap₂ (λ xs ys. xs ++ ys) (positions_fingers m n o 0 n) more ∙ elim (stands_on number side m) as (λ b. cond b (range_with_len o n) [] ++ runs others ≡ runs (cond b (at ∷ others) others)) [ true ↦ ap (λ xs. xs ++ runs others) here | false ↦ refl ]
 
 -- Twins
 
 module _ (limit : ℕ) (ms : List Mod) (widths : EvenTwins ms) where
-  runs_even : (number : ℕ) → 0 < number → Even (runs_on limit number Left 0 ms) (runs_on limit number Right 0 ms)
-  runs_even number h j a b e f =
-      let x = at_run limit number Left ms j a e in
-      let y = at_run limit number Right ms j b f in
-      let t : Twins ms x.p y.p = record { number = number; paired = h; index = j; first = x.position; second = y.position } in
-      let w = widths x.p y.p x.site.m y.site.m t (standing limit number Left ms j x) (standing limit number Right ms j y) in
-      let xa : x.r ≡ a = same (slice_get (runs_on limit number Left 0 ms) j) x.run e in
-      let yb : y.r ≡ b = same (slice_get (runs_on limit number Right 0 ms) j) y.run f in
-      ap (λ (r : Run). r.count) (sym xa) ∙ x.site.count ∙ ap (finger_count limit) w ∙ sym y.site.count ∙ ap (λ (r : Run). r.count) yb
+  abbrev start : ℕ → ℕ
+  start p = first_finger limit ms p
 
-  -- finger k of the module at a position stands k behind the start of its run
-  at_finger : (side : Side) (number j : ℕ) (f : Here limit number side ms j) (p k : ℕ) → f.p ≡ p → f.r.start + k ≡ finger_position limit ms p k
-  at_finger side number j f p k e =
-      let s = f.site in
-      omega (arith, s.start, ap (λ i. length (folded_by limit (take i ms))) (sym e ∙ s.place), ap (λ i. length (folded_by limit (take i ms))) (zero-add s.at))
+  abbrev count : ℕ → ℕ
+  count p = count_at limit ms p
+
+  abbrev on : ℕ → Side → List ℕ
+  on number side = positions_on number side 0 ms
+
+  folded_on : (number : ℕ) (side : Side) (i : ℕ) → slice_get (positions_on number side 0 (folded_by limit ms)) i ≡ slice_get (runs number side limit ms (on number side)) i
+  folded_on number side i = ap (λ ps. slice_get ps i) (positions_folded number side limit ms [] ms refl)
+
+  -- twins have as many fingers
+  even : (number : ℕ) → 0 < number → Even start count (on number Left) (on number Right)
+  even number h j p q e f =
+      let x = site number Left 0 ms j p e in
+      let y = site number Right 0 ms j q f in
+      let here = standing number Left ms p x in
+      let there = standing number Right ms q y in
+      count_is limit ms p x.m here ∙ ap (finger_count limit) (widths p q x.m y.m (record { number = number; paired = h; index = j; first = e; second = f }) here there) ∙ sym (count_is limit ms q y.m there)
 
   twins_of_fingers : (left right : ℕ) → FingersOfTwins limit ms left right → Twins (folded_by limit ms) left right
   twins_of_fingers left right f =
       let t = f.twins in
-      let x = at_position limit t.number Left ms t.index f.p t.first in
-      let y = at_position limit t.number Right ms t.index f.q t.second in
-      let xp : x.p ≡ f.p = same (slice_get (positions_on t.number Left 0 ms) t.index) x.position t.first in
-      let yq : y.p ≡ f.q = same (slice_get (positions_on t.number Right 0 ms) t.index) y.position t.second in
-      let m : x.site.m ≡ f.m = same (slice_get ms f.p) (ap (slice_get ms) (sym xp) ∙ standing limit t.number Left ms t.index x) f.here in
-      let c = in_common (runs_on limit t.number Left 0 ms) (runs_on limit t.number Right 0 ms) (runs_even t.number t.paired) t.index f.k x.r y.r x.run y.run (omega (arith, f.some, x.site.count, ap (λ (z : Mod). finger_count limit z.width) m)) in
+      let c = in_common start count (on t.number Left) (on t.number Right) (even t.number t.paired) t.index f.k f.p f.q t.first t.second (omega (arith, f.some, count_is limit ms f.p f.m f.here)) in
       record {
         number = t.number;
         paired = t.paired;
         index = c.index;
-        first = ap (λ ps. slice_get ps c.index) (positions_folded limit t.number Left 0 ms) ∙ c.first ∙ ap (λ i. Some i) (at_finger Left t.number t.index x f.p f.k xp ∙ sym f.first);
-        second = ap (λ ps. slice_get ps c.index) (positions_folded limit t.number Right 0 ms) ∙ c.second ∙ ap (λ i. Some i) (at_finger Right t.number t.index y f.q f.k yq ∙ sym f.second);
+        first = folded_on t.number Left c.index ∙ c.first ∙ ap (λ i. Some i) (sym f.first);
+        second = folded_on t.number Right c.index ∙ c.second ∙ ap (λ i. Some i) (sym f.second);
       }
 
   fingers_of_twins : (left right : ℕ) → Twins (folded_by limit ms) left right → FingersOfTwins limit ms left right
   fingers_of_twins left right t =
-      let w = from_common (runs_on limit t.number Left 0 ms) (runs_on limit t.number Right 0 ms) (runs_even t.number t.paired) t.index left right (ap (λ ps. slice_get ps t.index) (sym (positions_folded limit t.number Left 0 ms)) ∙ t.first) (ap (λ ps. slice_get ps t.index) (sym (positions_folded limit t.number Right 0 ms)) ∙ t.second) in
-      let x = at_run limit t.number Left ms w.index w.a w.run in
-      let y = at_run limit t.number Right ms w.index w.b w.other in
-      let xa : x.r ≡ w.a = same (slice_get (runs_on limit t.number Left 0 ms) w.index) x.run w.run in
-      let yb : y.r ≡ w.b = same (slice_get (runs_on limit t.number Right 0 ms) w.index) y.run w.other in
+      let w = from_common start count (on t.number Left) (on t.number Right) (even t.number t.paired) t.index left right (sym (folded_on t.number Left t.index) ∙ t.first) (sym (folded_on t.number Right t.index) ∙ t.second) in
+      let x = site t.number Left 0 ms w.index w.p w.here in
+      let here = standing t.number Left ms w.p x in
       record {
-        p = x.p;
-        q = y.p;
+        p = w.p;
+        q = w.q;
         k = w.k;
-        m = x.site.m;
-        twins = record { number = t.number; paired = t.paired; index = w.index; first = x.position; second = y.position };
-        here = standing limit t.number Left ms w.index x;
-        some = omega (arith, w.inside, x.site.count, ap (λ (r : Run). r.count) xa);
-        first = w.first ∙ ap (λ (r : Run). r.start + w.k) (sym xa) ∙ at_finger Left t.number w.index x x.p w.k refl;
-        second = w.second ∙ ap (λ (r : Run). r.start + w.k) (sym yb) ∙ at_finger Right t.number w.index y y.p w.k refl;
+        m = x.m;
+        twins = record { number = t.number; paired = t.paired; index = w.index; first = w.here; second = w.there };
+        here = here;
+        some = omega (arith, w.inside, count_is limit ms w.p x.m here);
+        first = w.first;
+        second = w.second;
       }
+
+  -- what stands in the place of a finger is as wide as the finger
+  at_place : (i : ℕ) (a : Mod) (p k : ℕ) (m : Mod) → slice_get (folded_by limit ms) i ≡ Some a → i ≡ finger_position limit ms p k → slice_get ms p ≡ Some m → k < finger_count limit m.width → a.width ≡ finger_width (finger_count limit m.width) k m.width
+  at_place i a p k m ha e here h =
+      let it : Some a ≡ Some (finger (finger_count limit m.width) m k) = sym ha ∙ ap (slice_get (folded_by limit ms)) e ∙ finger_place limit ms p k m here h in
+      let same : a ≡ finger (finger_count limit m.width) m k = cc in
+      ap (λ (x : Mod). x.width) same
 
   -- fingers of twins have equal widths
   fingers_even : EvenTwins (folded_by limit ms)
   fingers_even left right a b t ha hb =
       let f = fingers_of_twins left right t in
       let u = f.twins in
-      let y = at_position limit u.number Right ms u.index f.q u.second in
-      let yq : y.p ≡ f.q = same (slice_get (positions_on u.number Right 0 ms) u.index) y.position u.second in
-      let there : slice_get ms f.q ≡ Some y.site.m = ap (slice_get ms) (sym yq) ∙ standing limit u.number Right ms u.index y in
-      let w : f.m.width ≡ y.site.m.width = widths f.p f.q f.m y.site.m u f.here there in
-      let first : a ≡ finger (finger_count limit f.m.width) f.m f.k = same (slice_get (folded_by limit ms) left) ha (ap (slice_get (folded_by limit ms)) f.first ∙ finger_place limit ms f.p f.k f.m f.here f.some) in
-      let second : b ≡ finger (finger_count limit y.site.m.width) y.site.m f.k = same (slice_get (folded_by limit ms) right) hb (ap (slice_get (folded_by limit ms)) f.second ∙ finger_place limit ms f.q f.k y.site.m there (omega (arith, f.some, ap (finger_count limit) w))) in
-      ap (λ (m : Mod). m.width) first ∙ ap (λ v. finger_width (finger_count limit v) f.k v) w ∙ ap (λ (m : Mod). m.width) (sym second)
+      let y = site u.number Right 0 ms u.index f.q u.second in
+      let there = standing u.number Right ms f.q y in
+      let w : f.m.width ≡ y.m.width = widths f.p f.q f.m y.m u f.here there in
+      let first = at_place left a f.p f.k f.m ha f.first f.here f.some in
+      let second = at_place right b f.q f.k y.m hb f.second there (omega (arith, f.some, ap (finger_count limit) w)) in
+      first ∙ ap (λ v. finger_width (finger_count limit v) f.k v) w ∙ sym second
 
 pub folds_twins : (limit : ℕ) (ms : List Mod) → FoldsTwins limit ms
 folds_twins limit ms = record { place = finger_place limit ms; fingers = twins_of_fingers limit ms; only = fingers_of_twins limit ms; even = fingers_even limit ms }

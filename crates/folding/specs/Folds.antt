@@ -15,17 +15,7 @@ finger_width n k width = width / n + cond (nat_lt k (width % n)) 1 0
 
 -- finger k of n of a module: all but the width is copied
 abbrev pub finger : ℕ → Mod → ℕ → Mod
-finger n m k = record {
-  kind = m.kind;
-  body = m.body;
-  gate = m.gate;
-  source = m.source;
-  drain = m.drain;
-  width = finger_width n k m.width;
-  tag = m.tag;
-  pair = m.pair;
-  side = m.side;
-}
+finger n m k = record m { width = finger_width n k m.width }
 
 -- the fingers of a module from finger k of n on
 abbrev pub fingers_from : ℕ → ℕ → Mod → List Mod

@@ -1,80 +1,47 @@
 -- What is folded of a lawful list is lawful, and as wide.
-use Rattle.std.specs.Prelude.{◌≡◌, ℕ, zero, suc, ◌+◌, ◌-◌, ◌*◌, ◌/◌, ◌%◌, ◌<◌, ◌≤◌, min, cond, List, [], ◌∷◌, map, ◌==◌, nat_lt, refl}
-use Rattle.std.proofs.Math.Nat.{div-add-mod}
-use Rattle.std.proofs.Common.{div-add-mod', mod-lt, zero-mul, suc-mul, mul-suc, arith}
+use Rattle.std.specs.Prelude.{◌≡◌, ℕ, zero, suc, ◌+◌, ◌-◌, ◌*◌, ◌/◌, ◌%◌, ◌≤◌, min, List, [], ◌∷◌, map, refl}
+use Rattle.std.proofs.Common.{div-add-mod', arith}
 use Rattle.std.specs.List.{range_with_len, AllByRecursion}
-use Rattle.std.proofs.lemmas.Nat.{le-div}
 use Rattle.std.proofs.ByRecursion.{All-append}
-use Rattle.std.proofs.lemmas.List.Sums.{sum_by-cons, sum_by-append}
-use Rattle.std.proofs.lemmas.Bool.{ltb-true, ltb-false, eqb-false, cond_both}
+use Rattle.std.proofs.lemmas.Grind.{common_steps}
 use Rattle.net.specs.Mods.{Mod, InRange, Lawful, widths}
 use Rattle.folding.specs.Folds.{finger_count, finger_width, finger, fingers, folded_by}
 
-abbrev width_of : Mod → ℕ
-width_of m = m.width
-
-ceiling_least : (q r limit w : ℕ) → q * limit + r ≡ w → 1 ≤ w → 1 ≤ q + min 1 r
-ceiling_least zero r limit w e h = omega (arith, zero-mul limit)
-ceiling_least (suc q) r limit w e h = omega arith
-
-ceiling_most : (q r limit w : ℕ) → q * limit + r ≡ w → 1 ≤ limit → q + min 1 r ≤ w
-ceiling_most q r zero w e h = absurd (omega arith)
-ceiling_most q r (suc limit) w e h = omega (arith, mul-suc q limit)
-
 -- a width becomes at least one finger
 pub count_least : (limit w : ℕ) → 1 ≤ w → 1 ≤ finger_count limit w
-count_least limit w h =
-    cond_both (limit == 0) 1 (w / limit + min 1 (w % limit)) (λ n. 1 ≤ n) (λ _. omega arith) (λ _. ceiling_least (w / limit) (w % limit) limit w (div-add-mod' w limit) h)
+count_least limit w h = grind (arith, common_steps)
+
+-- a quotient, rounded up, is at most what was divided
+rounded_up : (q r n w : ℕ) → q * n + r ≡ w → 1 ≤ n → q + min 1 r ≤ w
+rounded_up q r n w e h = grind (arith, common_steps)
 
 -- and no more fingers than it has steps
 pub count_most : (limit w : ℕ) → 1 ≤ w → finger_count limit w ≤ w
-count_most limit w h =
-    cond_both (limit == 0) 1 (w / limit + min 1 (w % limit)) (λ n. n ≤ w) (λ _. h) (λ t. ceiling_most (w / limit) (w % limit) limit w (div-add-mod' w limit) (omega (arith, eqb-false limit 0 t)))
-
--- one for each of the first r
-abbrev wider : ℕ → ℕ → ℕ
-wider k r = cond (nat_lt k r) 1 0
-
-wider_more : (k r : ℕ) → wider k r + (r - (k + 1)) ≡ r - k
-wider_more k r =
-    let P : ℕ → Type 0 = λ e. e + (r - (k + 1)) ≡ r - k in
-    cond_both (nat_lt k r) 1 0 P (λ t. omega (arith, ltb-true k r t)) (λ t. omega (arith, ltb-false k r t))
+count_most limit w h = grind (arith, common_steps, rounded_up (w / limit) (w % limit) limit w (div-add-mod' w limit))
 
 -- j fingers of n from finger k on
 from_widths : (m : Mod) (n k j : ℕ) → m.width % n ≤ k + j → widths (map (finger n m) (range_with_len k j)) ≡ j * (m.width / n) + (m.width % n - k)
-from_widths m n k zero h = omega (arith, zero-mul (m.width / n))
+from_widths m n k zero h = grind (arith, common_steps)
 from_widths m n k (suc j) h =
     let more = from_widths m n (k + 1) j (omega arith) in
-    omega (arith, sum_by-cons width_of (finger n m k) (map (finger n m) (range_with_len (k + 1) j)), more, suc-mul j (m.width / n), wider_more k (m.width % n))
+    grind (arith, common_steps)
 
 -- the fingers of a module are as wide in all as it is
 pub fingers_widths : (limit : ℕ) (m : Mod) → 1 ≤ m.width → widths (fingers limit m) ≡ m.width
-fingers_widths limit m h =
-    let n = finger_count limit m.width in
-    let low : 0 < n = count_least limit m.width h in
-    omega (arith, from_widths m n 0 n (omega (arith, mod-lt m.width low)), div-add-mod m.width n)
-
-wider_few : (q n r w k : ℕ) → q * n + r ≡ w → 1 ≤ n → q + wider k r ≤ w
-wider_few q zero r w k e h = absurd (omega arith)
-wider_few q (suc n) r w k e h =
-    let P : ℕ → Type 0 = λ x. q + x ≤ w in
-    cond_both (nat_lt k r) 1 0 P (λ t. omega (arith, ltb-true k r t, mul-suc q n)) (λ t. omega (arith, mul-suc q n))
+fingers_widths limit m h = grind (arith, common_steps, from_widths)
 
 -- a finger of a width in range is in range
 pub finger_least : (w n k : ℕ) → 1 ≤ n → n ≤ w → 1 ≤ finger_width n k w
-finger_least w n k low high = omega (arith, le-div 1 w n low (omega arith))
+finger_least w n k low high = grind (arith, common_steps)
 
 pub finger_most : (w n k : ℕ) → 1 ≤ n → finger_width n k w ≤ w
-finger_most w n k low = wider_few (w / n) n (w % n) w k (div-add-mod' w n) low
-
-finger_range : (m : Mod) (n k : ℕ) → InRange m → 1 ≤ n → n ≤ m.width → InRange (finger n m k)
-finger_range m n k r low high =
-    let w = r.most in
-    record { least = finger_least m.width n k low high; most = omega (arith, finger_most m.width n k low); tag = r.tag; pair = r.pair; alone = r.alone }
+finger_most w n k low = grind (arith, common_steps, rounded_up (w / n) (w % n) n w (div-add-mod' w n))
 
 from_range : (m : Mod) (n k j : ℕ) → InRange m → 1 ≤ n → n ≤ m.width → AllByRecursion InRange (map (finger n m) (range_with_len k j))
 from_range m n k zero r low high = tt
-from_range m n k (suc j) r low high = (finger_range m n k r low high, from_range m n (k + 1) j r low high)
+from_range m n k (suc j) r low high =
+    let w = r.most in
+    (record { least = finger_least m.width n k low high; most = omega (arith, finger_most m.width n k low); tag = r.tag; pair = r.pair; alone = r.alone }, from_range m n (k + 1) j r low high)
 
 folded_range : (limit : ℕ) (ms : List Mod) → AllByRecursion InRange ms → AllByRecursion InRange (folded_by limit ms)
 folded_range limit [] h = tt
@@ -87,7 +54,9 @@ folded_range limit (m ∷ ms) h =
 pub folded_widths : (limit : ℕ) (ms : List Mod) → AllByRecursion InRange ms → widths (folded_by limit ms) ≡ widths ms
 folded_widths limit [] h = refl
 folded_widths limit (m ∷ ms) h =
-    omega (arith, sum_by-append width_of (fingers limit m) (folded_by limit ms), fingers_widths limit m h.0.least, folded_widths limit ms h.1, sum_by-cons width_of m ms)
+    let first = fingers_widths limit m h.0.least in
+    let others = folded_widths limit ms h.1 in
+    grind (arith, common_steps)
 
 pub folded_lawful : (limit : ℕ) (ms : List Mod) → Lawful ms → Lawful (folded_by limit ms)
 folded_lawful limit ms h =

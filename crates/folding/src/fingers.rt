@@ -64,7 +64,6 @@ impl<K: NetKey> Iterator for Fingers<K> {
 
     ghost remaining = { item_count (untold K.NetKey.net) };
 
-    #[tactic(auto, using(crate::proofs::Steps::fingers_more, crate::proofs::Steps::fingers_none))]
     fn next(&mut self) -> Option<Module<K>> {
         if self.told >= self.count {
             return None;

@@ -1,4 +1,4 @@
--- What is left of a row where a pass begins, and where it goes on to the next instance.
+-- What is left of a row where a pass goes on to the next instance.
 use Rattle.std.proofs.Common.{◌≡◌, ℕ, zero, suc, ◌+◌, ◌-◌, ◌<◌, List, [], ◌++◌, map, sym, refl, ap, ◌∙◌, arith}
 use Rattle.net.specs.Mods.{Mod}
 use Rattle.row.specs.Rows.{as_instance, instances_from, instances_left, narrow_front, row_rest}

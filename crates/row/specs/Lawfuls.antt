@@ -1,10 +1,9 @@
 -- What a row tells keeps the ranges and the total width.
-use Rattle.std.specs.Prelude.{ℕ, zero, suc, ◌+◌, ◌-◌, ◌≤◌, List, [], ◌∷◌, map, nat_le}
+use Rattle.std.specs.Prelude.{ℕ, zero, suc, ◌+◌, ◌-◌, ◌≤◌, List, [], ◌∷◌, map}
 use Rattle.std.proofs.Common.{arith}
 use Rattle.std.specs.List.{AllByRecursion}
 use Rattle.std.proofs.ByRecursion.{All-append, All-map, All-weaker}
-use Rattle.std.proofs.lemmas.List.Sums.{sum_by-cons}
-use Rattle.std.proofs.lemmas.Bool.{leb-true, cond_both}
+use Rattle.std.proofs.lemmas.Grind.{common_steps}
 use Rattle.net.specs.Mods.{Mod, InRange, Lawful, widths}
 use Rattle.row.specs.Rows.{as_instance, instances_from, narrow_front, row_told}
 
@@ -18,13 +17,12 @@ instances_range k (suc n) ms h =
 
 front_range : (w : ℕ) (ms : List Mod) → AllByRecursion InRange ms → AllByRecursion InRange (narrow_front w ms)
 front_range w [] h = tt
-front_range w (m ∷ ms) h = cond_both (nat_le m.width w) (m ∷ narrow_front (w - m.width) ms) [] (AllByRecursion InRange) (λ _. (h.0, front_range (w - m.width) ms h.1)) (λ _. tt)
+front_range w (m ∷ ms) h = grind (arith, common_steps, front_range (w - m.width) ms h.1)
 
 -- the front keeps the width that it is cut at
 front_widths : (w : ℕ) (ms : List Mod) → widths (narrow_front w ms) ≤ w
-front_widths w [] = omega arith
-front_widths w (m ∷ ms) =
-    cond_both (nat_le m.width w) (m ∷ narrow_front (w - m.width) ms) [] (λ xs. widths xs ≤ w) (λ t. omega (arith, leb-true m.width w t, sum_by-cons (λ (x : Mod). x.width) m (narrow_front (w - m.width) ms), front_widths (w - m.width) ms)) (λ _. omega arith)
+front_widths w [] = grind (arith, common_steps)
+front_widths w (m ∷ ms) = grind (arith, common_steps, front_widths (w - m.width) ms)
 
 -- whatever number of instances is told
 pub row_lawful : (told : ℕ) (ms : List Mod) → Lawful ms → Lawful (row_told told ms)
