@@ -1,5 +1,5 @@
 -- The check of a deck, step by step, and that its answer is the one that the rules give.
-use Rattle.std.proofs.Common.{◌≡◌, ℕ, ◌+◌, ◌<◌, ◌≤◌, true, false, ◌⊎◌, List, [], ◌∷◌, ◌++◌, length, get_or, Ok, Err, sym, refl, ap, ◌∙◌, inl, inr, append_assoc, arith, MatchResult}
+use Rattle.std.proofs.Common.{◌≡◌, ℕ, ◌+◌, ◌<◌, ◌≤◌, Bool, true, false, cond, List, [], ◌∷◌, ◌++◌, length, get_or, Ok, Err, sym, refl, ap, ◌∙◌, append_assoc, arith, MatchResult, Bor, nat_lt, ltb-true, ltb-false}
 use Rattle.std.specs.List.{AllByRecursion}
 use Rattle.std.proofs.lemmas.List.{length-append, nil_from_length}
 use Rattle.refusal.specs.declared.refusal.Refusal.{Refusal}
@@ -7,10 +7,13 @@ use Rattle.refusal.specs.declared.refusal.Refusal.TheVariants.{CutShort, OutOfOr
 use Rattle.record.specs.declared.records.Record.{Record}
 use Rattle.record.specs.Records.{fits, first_unfit}
 use Rattle.table.specs.Tables.{Verdict}
+use Rattle.deck.specs.declared.commands.Command.{Command}
+use Rattle.deck.specs.declared.commands.Command.TheVariants.{Transistor, Remark, End}
+use Rattle.deck.specs.Commands.{Gives}
 use Rattle.deck.specs.Format.{Entry, transistor, remark, operands, operand_offset, entry_bytes, entries_bytes, records_of, Keeps}
 use Rattle.deck.specs.Rules.{Accepted, Unreadable, Stops, Unopened, Refused, Judged}
 use Rattle.deck.specs.Passes.{Passed, Ended, Stopped}
-use Rattle.deck.specs.Verdicts.{at_end, deck_verdict}
+use Rattle.deck.specs.Verdicts.{at_end, transistor_verdict, deck_verdict}
 use Rattle.table.specs.Lawfuls.{err_ok}
 use Rattle.deck.proofs.Written.{accepted_verdict, refused_verdict}
 use Rattle.deck.proofs.Fronts.{behind, front}
@@ -38,12 +41,13 @@ keeps_push (x ∷ es) e h k = (h.0, keeps_push es e h.1 k)
 pub passed_none : (bs : List ℕ) → Passed bs bs 2 0
 passed_none bs = record { entries = []; sound = record { keep = tt; few = omega arith }; written = refl; place = refl; many = refl }
 
-passed_entry : (bs rest rest' : List ℕ) (offset n n' : ℕ) (e : Entry) → Passed bs rest offset n → rest ≡ entry_bytes e ++ rest' → length (entry_bytes e) ≡ 17 → Keeps e → n' ≡ n + length (records_of (e ∷ [])) → n' ≤ 256 → Passed bs rest' (offset + 17) n'
-passed_entry bs rest rest' offset n n' e p w size k m few =
+passed_entry : (bs rest rest' : List ℕ) (offset offset' n n' : ℕ) (e : Entry) → Passed bs rest offset n → rest ≡ entry_bytes e ++ rest' → offset' + length rest' ≡ offset + length rest → Keeps e → n' ≡ n + length (records_of (e ∷ [])) → n' ≤ 256 → Passed bs rest' offset' n'
+passed_entry bs rest rest' offset offset' n n' e p w further k m few =
     let es = p.entries in
     let many = ap length (records_push es e) ∙ length-append (records_of es) (records_of (e ∷ [])) in
     let long = ap length (bytes_push es e) ∙ length-append (entries_bytes es) (entry_bytes e ++ []) in
     let last = length-append (entry_bytes e) [] in
+    let size = ap length w ∙ length-append (entry_bytes e) rest' in
     record {
       entries = es ++ e ∷ [];
       sound = record { keep = keeps_push es e p.sound.keep k; few = omega (arith, p.many) };
@@ -52,41 +56,58 @@ passed_entry bs rest rest' offset n n' e p w size k m few =
       many = omega (arith, p.many);
     }
 
-pub passed_transistor : (bs rest rest' : List ℕ) (offset n : ℕ) (r : Record) → Passed bs rest offset n → rest ≡ 0x20 ∷ (operands r ++ rest') → (n < 256) × (fits r ≡ true) → Passed bs rest' (offset + 17) (n + 1)
-passed_transistor bs rest rest' offset n r p w h = passed_entry bs rest rest' offset n (n + 1) (transistor r) p w refl h.1 refl (omega (arith, h.0))
+-- what the check of a transistor answers
 
-pub passed_remark : (bs rest rest' : List ℕ) (offset n : ℕ) (text : List ℕ) → Passed bs rest offset n → rest ≡ 0x30 ∷ (text ++ rest') → length text ≡ 16 → Passed bs rest' (offset + 17) n
-passed_remark bs rest rest' offset n text p w size =
-    passed_entry bs rest rest' offset n n (remark text) p w (omega arith) size (omega arith) (omega (arith, p.sound.few, p.many))
+accepted_transistor : (n offset : ℕ) (r : Record) → ◌≡◌ {A = Verdict} (Ok tt) (transistor_verdict n offset r (Ok tt)) → (n < 256) × (fits r ≡ true)
+accepted_transistor n offset r e = go (nat_lt n 256) (fits r) refl refl e
+  where
+    go : (b f : Bool) → nat_lt n 256 ≡ b → fits r ≡ f → ◌≡◌ {A = Verdict} (Ok tt) (cond b (cond f (Ok tt) (Err (OutOfRange (offset + 1 + operand_offset (first_unfit r))))) (Err (TooManyTransistors offset))) → (n < 256) × (fits r ≡ true)
+    go true true p q e = (ltb-true n 256 p, q)
+    go true false p q e = absurd (cc)
+    go false f p q e = absurd (cc)
 
--- where the rest begins
-pub passed_size : (bs rest : List ℕ) (offset n : ℕ) → Passed bs rest offset n → offset + length rest ≡ 2 + length bs
-passed_size bs rest offset n p = omega (arith, p.place, ap length p.written, length-append (entries_bytes p.entries) rest)
+refused_transistor : (n offset : ℕ) (r : Record) (rest rest' : List ℕ) (x : Refusal) → rest ≡ 0x20 ∷ (operands r ++ rest') → ◌≡◌ {A = Verdict} (Err x) (transistor_verdict n offset r (Ok tt)) → Stops n offset rest x
+refused_transistor n offset r rest rest' x w e = go (nat_lt n 256) (fits r) refl refl e
+  where
+    go : (b f : Bool) → nat_lt n 256 ≡ b → fits r ≡ f → ◌≡◌ {A = Verdict} (Err x) (cond b (cond f (Ok tt) (Err (OutOfRange (offset + 1 + operand_offset (first_unfit r))))) (Err (TooManyTransistors offset))) → Stops n offset rest x
+    go true true p q e = absurd (cc)
+    go true false p q e = Stops.unfit r rest' w (ltb-true n 256 p) q (cc)
+    go false f p q e = Stops.too_many r rest' w (ltb-false n 256 p) (cc)
 
--- a transistor that was read leaves less
-pub transistor_size : (r : Record) (rest rest' : List ℕ) → rest ≡ 0x20 ∷ (operands r ++ rest') → length rest ≡ 17 + length rest'
-transistor_size r rest rest' w = ap length w ∙ omega arith
+-- how the pass goes on and ends, by the command that was read
 
-pub remark_size : (text rest rest' : List ℕ) → rest ≡ 0x30 ∷ (text ++ rest') → length text ≡ 16 → length rest ≡ 17 + length rest'
-remark_size text rest rest' w size = ap length w ∙ omega (arith, length-append text rest')
+module _ (bs rest : List ℕ) (offset n : ℕ) (p : Passed bs rest offset n) where
+  stopped : (x : Refusal) → Stops n offset rest x → Stopped bs x
+  stopped x s = record { rest = rest; offset = offset; before = n; passed = p; stops = s }
 
--- how the pass ends
+  pub stopped_unreadable : (x : Refusal) → Unreadable offset rest x → Stopped bs x
+  stopped_unreadable x u = stopped x (Stops.unreadable u)
 
-pub stopped_unreadable : (bs rest : List ℕ) (offset n : ℕ) (x : Refusal) → Passed bs rest offset n → Unreadable offset rest x → Stopped bs x
-stopped_unreadable bs rest offset n x p u = record { rest = rest; offset = offset; before = n; passed = p; stops = Stops.unreadable u }
+  module _ (c : Command) (rest' : List ℕ) (offset' : ℕ) (g : Gives rest offset c rest' offset') where
+    pub passed_transistor : (r : Record) → c ≡ Transistor r → ◌≡◌ {A = Verdict} (Ok tt) (transistor_verdict n offset r (Ok tt)) → Passed bs rest' offset' (n + 1)
+    passed_transistor r e v =
+        let h = accepted_transistor n offset r v in
+        passed_entry bs rest rest' offset offset' n (n + 1) (transistor r) p (rw e at g.says) g.further h.1 refl (omega (arith, h.0))
 
-pub stopped_transistor : (bs rest rest' : List ℕ) (offset n : ℕ) (r : Record) (x : Refusal) → Passed bs rest offset n → rest ≡ 0x20 ∷ (operands r ++ rest')
-    → ((256 ≤ n) × (x ≡ TooManyTransistors offset)) ⊎ ((n < 256) × (fits r ≡ false) × (x ≡ OutOfRange (offset + 1 + operand_offset (first_unfit r)))) → Stopped bs x
-stopped_transistor bs rest rest' offset n r x p w (inl h) = record { rest = rest; offset = offset; before = n; passed = p; stops = Stops.too_many r rest' w h.0 h.1 }
-stopped_transistor bs rest rest' offset n r x p w (inr h) = record { rest = rest; offset = offset; before = n; passed = p; stops = Stops.unfit r rest' w h.0 h.1 h.2 }
+    pub passed_remark : (at : ℕ) (bytes : Bor (List ℕ)) → c ≡ Remark at bytes → Passed bs rest' offset' n
+    passed_remark at bytes e =
+        let h = rw e at g.says in
+        passed_entry bs rest rest' offset offset' n n (remark bytes.now) p h.0 g.further h.1 (omega arith) (omega (arith, p.sound.few, p.many))
 
-pub ended : (bs rest rest' : List ℕ) (offset n : ℕ) (v : Verdict) → Passed bs rest offset n → rest ≡ 0x7F ∷ rest' → v ≡ at_end (offset + 1) rest' → MatchResult v (λ _. Ended bs) (λ x. Stopped bs x)
-ended bs rest [] offset n (Ok u) p w e = record { entries = p.entries; sound = p.sound; written = p.written ∙ ap (λ q. entries_bytes p.entries ++ q) w }
-ended bs rest [] offset n (Err x) p w e = err_ok x e
-ended bs rest (b ∷ rest') offset n (Ok u) p w e = err_ok (OutOfOrder (offset + 1)) (sym e)
-ended bs rest (b ∷ rest') offset n (Err x) p w e =
-    let q : x ≡ OutOfOrder (offset + 1) = cc in
-    record { rest = rest; offset = offset; before = n; passed = p; stops = Stops.behind_end b rest' w q }
+    pub stopped_transistor : (r : Record) (x : Refusal) → c ≡ Transistor r → ◌≡◌ {A = Verdict} (Err x) (transistor_verdict n offset r (Ok tt)) → Stopped bs x
+    stopped_transistor r x e v = stopped x (refused_transistor n offset r rest rest' x (rw e at g.says) v)
+
+    pub ended : (v : Verdict) → c ≡ End → v ≡ at_end offset' rest' → MatchResult v (λ _. Ended bs) (λ x. Stopped bs x)
+    ended v e = go v rest' (rw e at g.says) g.further
+      where
+        go : (v : Verdict) (rest' : List ℕ) → rest ≡ 0x7F ∷ rest' → offset' + length rest' ≡ offset + length rest → v ≡ at_end offset' rest' → MatchResult v (λ _. Ended bs) (λ x. Stopped bs x)
+        go (Ok u) [] w f e = record { entries = p.entries; sound = p.sound; written = p.written ∙ ap (λ q. entries_bytes p.entries ++ q) w }
+        go (Err x) [] w f e = absurd (cc)
+        go (Ok u) (b ∷ rest') w f e = absurd (cc)
+        go (Err x) (b ∷ rest') w f e =
+            let on : offset' ≡ offset + 1 = omega (arith, ap length w) in
+            let q : x ≡ OutOfOrder (offset + 1) = cc in
+            stopped x (Stops.behind_end b rest' w q)
 
 -- the opening
 

@@ -1,7 +1,7 @@
 -- Steps of the reader of commands, and what an accepted deck tells.
-use Rattle.std.proofs.Common.{◌≡◌, ℕ, ◌+◌, ◌-◌, ◌<◌, ◌≤◌, Bool, true, false, cond, eqb, ltb, leb, List, [], ◌∷◌, ◌++◌, map, length, take, drop, Some, Ok, Err, sym, refl, ap, ◌∙◌, arith}
+use Rattle.std.proofs.Common.{◌≡◌, ℕ, ◌+◌, ◌<◌, ◌≤◌, Bool, true, false, cond, eqb, ltb, leb, List, [], ◌∷◌, ◌++◌, map, length, take, drop, Some, Ok, Err, sym, refl, ap, ◌∙◌, arith}
 use Rattle.std.specs.List.{AllByRecursion}
-use Rattle.std.proofs.lemmas.List.{drop-drop, drop_at, take_at, take_rest, drop_all}
+use Rattle.std.proofs.lemmas.List.{length-append, drop-drop, drop_at, take_at, drop_all}
 use Rattle.std.proofs.lemmas.Bool.{ne_eqb, lt-leb}
 use Rattle.refusal.specs.declared.refusal.Refusal.{Refusal}
 use Rattle.refusal.specs.declared.refusal.Refusal.TheVariants.{TooLong, CutShort, OutOfOrder}
@@ -10,14 +10,13 @@ use Rattle.record.specs.Records.{fits, stated}
 use Rattle.table.specs.Tables.{Verdict}
 use Rattle.deck.specs.declared.commands.Command.{Command}
 use Rattle.deck.specs.declared.commands.Command.TheVariants.{Transistor, Remark, End}
-use Rattle.deck.specs.Commands.{Says}
+use Rattle.deck.specs.Commands.{Gives}
 use Rattle.deck.specs.Format.{Entry, transistor, remark, operands, records_of}
 use Rattle.table.specs.Lawfuls.{err_ok}
 use Rattle.deck.specs.Lawfuls.{accepted_entries}
 use Rattle.deck.specs.Reading.{First, Reads, told}
 use Rattle.deck.specs.Rules.{Unreadable}
 use Rattle.deck.specs.Verdicts.{opening_verdict, deck_verdict, entries_in, commands_offset, deck_entries, deck_tells}
-use Rattle.deck.proofs.Judges.{transistor_size, remark_size}
 use Rattle.deck.specs.Told.{Told}
 use Rattle.deck.proofs.Written.{transistor_entries, remark_entries, accepted_verdict, refused_verdict, deck_back}
 
@@ -25,28 +24,38 @@ use Rattle.deck.proofs.Written.{transistor_entries, remark_entries, accepted_ver
 part_behind : (bs behind front deck : List ℕ) (offset : ℕ) → bs ≡ front ++ behind → length front ≡ 17 → bs ≡ drop offset deck → behind ≡ drop (offset + 17) deck
 part_behind bs behind front deck offset w size p = sym (drop_at front behind 17 size) ∙ ap (drop 17) (sym w ∙ p) ∙ drop-drop 17 offset deck
 
-pub read_step : (bs : List ℕ) (offset : ℕ) (c : Command) (behind : List ℕ) → Says bs offset c behind → (c ≡ End → ⊥) → Reads bs offset (Some c) behind (offset + 17)
-read_step bs offset (Transistor r) behind w h =
-    (ap (entries_in 0) w ∙ transistor_entries r behind, refl, λ deck p. (part_behind bs behind (0x20 ∷ operands r) deck offset w refl p, tt))
-read_step bs offset (Remark at bytes) behind w h =
+-- the next place is behind the command
+step_on : (bs front behind : List ℕ) (offset offset' : ℕ) → bs ≡ front ++ behind → length front ≡ 17 → offset' + length behind ≡ offset + length bs → offset' ≡ offset + 17
+step_on bs front behind offset offset' w size f = omega (arith, ap length w, length-append front behind)
+
+pub read_step : (bs : List ℕ) (offset : ℕ) (c : Command) (behind : List ℕ) (offset' : ℕ) → Gives bs offset c behind offset' → (c ≡ End → ⊥) → Reads bs offset (Some c) behind offset'
+read_step bs offset (Transistor r) behind offset' g h =
+    let on = step_on bs (0x20 ∷ operands r) behind offset offset' g.says refl g.further in (
+      ap (entries_in 0) g.says ∙ transistor_entries r behind,
+      on,
+      λ deck p. (part_behind bs behind (0x20 ∷ operands r) deck offset g.says refl p ∙ ap (λ k. drop k deck) (sym on), tt),
+    )
+read_step bs offset (Remark at bytes) behind offset' g h =
     let text = bytes.now in
-    let size = w.1 in (
+    let w = g.says in
+    let size = w.1 in
+    let on = step_on bs (0x30 ∷ text) behind offset offset' w.0 (omega arith) g.further in (
       ap (entries_in 0) w.0 ∙ remark_entries text behind size,
-      refl,
+      on,
       λ deck p. (
-        part_behind bs behind (0x30 ∷ text) deck offset w.0 (omega arith) p,
+        part_behind bs behind (0x30 ∷ text) deck offset w.0 (omega arith) p ∙ ap (λ k. drop k deck) (sym on),
         (sym (ap (λ k. take 16 (drop k deck)) w.2 ∙ ap (take 16) (sym (drop-drop 1 offset deck) ∙ ap (drop 1) (sym p ∙ w.0)) ∙ take_at text behind 16 size), size),
       ),
     )
-read_step bs offset End behind w h = absurd (h refl)
+read_step bs offset End behind offset' g h = absurd (h refl)
 
 either_none : {X : Type 0} (b : Bool) → ◌≡◌ {A = List X} (cond b [] []) []
 either_none true = refl
 either_none false = refl
 
-pub end_none : (bs behind : List ℕ) → bs ≡ 0x7F ∷ behind → entries_in 0 bs ≡ []
+pub end_none : (bs : List ℕ) (offset : ℕ) (c : Command) (behind : List ℕ) (offset' : ℕ) → Gives bs offset c behind offset' → c ≡ End → entries_in 0 bs ≡ []
 unfolding entries_in
-end_none bs behind w = ap (entries_in 0) w ∙ either_none (leb 16 (length behind))
+end_none bs offset c behind offset' g e = let h = rw e at g.says in ap (entries_in 0) h ∙ either_none (leb 16 (length behind))
 
 cut_none : (rest : List ℕ) (xs : List Entry) → length rest < 16 → cond (leb 16 (length rest)) xs [] ≡ []
 cut_none rest xs h = ap (λ b. cond b xs []) (lt-leb 16 (length rest) h)
@@ -103,43 +112,14 @@ first_length (Transistor r) es rest e = omega (arith, ap length e)
 first_length (Remark at bytes) es rest e = omega (arith, ap length e)
 first_length End es rest e = absurd e
 
--- a command other than end has 17 bytes
-pub says_size : (bs : List ℕ) (offset : ℕ) (c : Command) (behind : List ℕ) → Says bs offset c behind → (c ≡ End → ⊥) → length bs ≡ 17 + length behind
-says_size bs offset (Transistor r) behind w h = transistor_size r bs behind w
-says_size bs offset (Remark at bytes) behind w h = remark_size bytes.now bs behind w.0 w.1
-says_size bs offset End behind w h = absurd (h refl)
-
--- the commands of a deck, as they are handed to the reader
-
-pub record Handed (bs : List ℕ) (rest : List ℕ) (offset : ℕ) : Type 0 where
-  pub entries : entries_in 0 rest ≡ deck_entries (deck_verdict bs) bs
-  pub start : offset ≡ commands_offset (deck_verdict bs) bs
-  pub part : rest ≡ drop offset bs
-
-module _ (bs : List ℕ) (v : Verdict) (f : v ≡ deck_verdict bs) where
-  pub accepted_long : v ≡ Ok tt → 2 ≤ length bs
-  accepted_long a = (deck_entries_lem bs (sym f ∙ a)).0
-
-  pub accepted_handed : v ≡ Ok tt → Handed bs (take (length bs - 2) (drop 2 bs)) 2
-  accepted_handed a =
-      let part = take_rest bs 2 in
-      let is = sym f ∙ a in
-      record {
-        entries = ap (entries_in 0) part ∙ (deck_entries_lem bs is).1 ∙ ap (λ u. deck_entries u bs) (sym is);
-        start = ap (λ u. commands_offset u bs) (sym is);
-        part = part;
-      }
-
-  pub refused_handed : (x : Refusal) → v ≡ Err x → Handed bs (take (length bs - length bs) (drop (length bs) bs)) (length bs)
-  unfolding entries_in
-  refused_handed x a =
-      let none = take_rest bs (length bs) ∙ drop_all (length bs) bs (omega arith) in
-      let is = sym f ∙ a in
-      record {
-        entries = ap (entries_in 0) none ∙ ap (λ u. deck_entries u bs) (sym is);
-        start = ap (λ u. commands_offset u bs) (sym is);
-        part = take_rest bs (length bs);
-      }
+-- where the commands of a deck begin, and the entries there
+pub handed : (bs : List ℕ) (start : ℕ) → start ≡ commands_offset (deck_verdict bs) bs → (start ≤ length bs) × (entries_in 0 (drop start bs) ≡ deck_entries (deck_verdict bs) bs)
+unfolding entries_in
+handed bs start e = go (deck_verdict bs) refl e
+  where
+    go : (v : Verdict) → deck_verdict bs ≡ v → start ≡ commands_offset v bs → (start ≤ length bs) × (entries_in 0 (drop start bs) ≡ deck_entries v bs)
+    go (Ok u) f e = let h = deck_entries_lem bs f in rw e h
+    go (Err x) f e = (omega arith, ap (entries_in 0) (drop_all start bs (omega arith)))
 
 -- what a deck tells, by its written form
 pub deck_told : (bs : List ℕ) (v : Verdict) → v ≡ deck_verdict bs → Told bs (deck_tells v bs)

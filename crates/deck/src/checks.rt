@@ -1,14 +1,13 @@
 //! The check of a deck.
 
-ghost use Rattle.std.specs.Prelude.{◌≡◌, ◌+◌, ◌^◌, ◌<◌, ◌≤◌, true, false, ◌⊎◌, ◌∷◌, length, MatchResult};
-ghost use Rattle.refusal.specs.declared.refusal.Refusal.TheVariants.{OutOfRange, TooManyTransistors};
-ghost use Rattle.record.specs.Records.{fits, first_unfit};
+ghost use Rattle.std.specs.Prelude.{◌≡◌, ◌+◌, ◌^◌, ◌<◌, ◌∷◌, Ok, MatchResult};
 ghost use Rattle.deck.specs.Format.{operand_offset};
 ghost use Rattle.deck.specs.Rules.{Unopened, Judged};
 ghost use Rattle.deck.specs.Passes.{Ended, Stopped};
-ghost use Rattle.deck.specs.Verdicts.{deck_verdict, at_end};
+ghost use Rattle.deck.specs.Verdicts.{deck_verdict, at_end, transistor_verdict};
 
-use crate::commands::{Command, read_command};
+use crate::commands::Command;
+use crate::reader::Commands;
 use record::{Field, Record};
 use refusal::Refusal;
 
@@ -32,9 +31,9 @@ pub fn check(bytes: &[u8]) -> Result<(), Refusal>
     check_commands(commands)
 }
 
-/// What stands behind begin and its edition.
-pub(crate) fn read_begin(bytes: &[u8]) -> Result<&[u8], Refusal>
-    ensures { MatchResult result (λ rest. bytes.now ≡ 0x10 ∷ 1 ∷ rest.now) (λ x. Unopened bytes.now x) }
+/// What is to be read behind begin and its edition.
+fn read_begin(bytes: &[u8]) -> Result<Commands<'_>, Refusal>
+    ensures { MatchResult result (λ c. (bytes.now ≡ 0x10 ∷ 1 ∷ c.rest.now) × (c.offset ≡ 2)) (λ x. Unopened bytes.now x) }
 {
     let [code, operands @ ..] = bytes else {
         return Err(Refusal::CutShort { length: 0 });
@@ -48,39 +47,37 @@ pub(crate) fn read_begin(bytes: &[u8]) -> Result<&[u8], Refusal>
     if *edition != 1 {
         return Err(Refusal::OutOfRange { place: 1 });
     }
-    Ok(commands)
+    Ok(Commands {
+        rest: commands,
+        offset: 2,
+    })
 }
 
 /// The check of what stands behind begin, on its own.
-fn check_commands(commands: &[u8]) -> Result<(), Refusal>
-    requires { 2 + length commands.now ≤ 16384 }
-    ensures { MatchResult result (λ _. Ended commands.now) (λ x. Stopped commands.now x) }
+fn check_commands(commands: Commands<'_>) -> Result<(), Refusal>
+    requires { commands.offset ≡ 2 }
+    ensures { MatchResult result (λ _. Ended commands.entry.rest.now) (λ x. Stopped commands.entry.rest.now x) }
 {
-    let mut rest = commands;
-    let mut offset = 2usize;
+    let mut left = commands;
     let mut transistors = 0usize;
     loop {
-        let (command, behind) = read_command(rest, offset)?;
+        let (command, behind) = left.read()?;
         match command {
             Command::Transistor(transistor) => {
-                check_transistor(&transistor, offset, transistors)?;
+                check_transistor(&transistor, left.offset, transistors)?;
                 transistors += 1;
             }
             Command::Remark { .. } => {}
-            Command::End => return check_end(behind, offset + 1),
+            Command::End => return check_end(&behind),
         }
-        rest = behind;
-        offset += 17;
+        left = behind;
     }
 }
 
 /// The check of one transistor whose command stands at that offset, behind so many others.
 fn check_transistor(transistor: &Record, offset: usize, before: usize) -> Result<(), Refusal>
     requires { offset + 17 < 2 ^ 64 }
-    ensures { MatchResult result
-        (λ _. (before < 256) × (fits transistor.now ≡ true))
-        (λ x. ((256 ≤ before) × (x ≡ TooManyTransistors offset))
-        ⊎ ((before < 256) × (fits transistor.now ≡ false) × (x ≡ OutOfRange (offset + 1 + operand_offset (first_unfit transistor.now))))) }
+    ensures { result ≡ transistor_verdict before offset transistor.now (Ok tt) }
 {
     if before >= MOST_TRANSISTORS {
         return Err(Refusal::TooManyTransistors { place: offset });
@@ -105,12 +102,14 @@ fn operand_offset(field: Field) -> usize
     }
 }
 
-/// The check of what stands behind end, at that offset: nothing may.
-fn check_end(behind: &[u8], offset: usize) -> Result<(), Refusal>
-    ensures { result ≡ at_end offset behind.now }
+/// The check of what stands behind end: nothing may.
+fn check_end(behind: &Commands<'_>) -> Result<(), Refusal>
+    ensures { result ≡ at_end behind.now.offset behind.now.rest.now }
 {
-    match behind {
-        [] => Ok(()),
-        [_, ..] => Err(Refusal::OutOfOrder { offset }),
+    if behind.rest.is_empty() {
+        return Ok(());
     }
+    Err(Refusal::OutOfOrder {
+        offset: behind.offset,
+    })
 }

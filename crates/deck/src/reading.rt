@@ -6,7 +6,7 @@ ghost use Rattle.deck.specs.Verdicts.{entries_in, commands_offset, deck_entries,
 ghost use Rattle.deck.specs.Reading.{Reads, told};
 ghost use Rattle.std.specs.Iterator.{at_most};
 
-use crate::commands::{Command, read_command};
+use crate::commands::Command;
 use crate::decks::Deck;
 use crate::reader::Commands;
 use circuit::Circuit;
@@ -21,16 +21,13 @@ impl<'a> Iterator for Commands<'a> {
     ghost remaining = { λ s. at_most (length (entries_in 0 s.rest.now)) };
 
     fn next(&mut self) -> Option<Command<'a>> {
-        let Ok((command, behind)) = read_command(self.rest, self.offset) else {
+        let Ok((command, behind)) = self.read() else {
             return None;
         };
         if let Command::End = command {
             return None;
         }
-        *self = Commands {
-            rest: behind,
-            offset: self.offset + 17,
-        };
+        *self = behind;
         Some(command)
     }
 }
@@ -42,17 +39,13 @@ impl<'a> Deck<'a> {
         ensures start { result.offset ≡ commands_offset (deck_verdict self.now.bytes.now) self.now.bytes.now }
         ensures part { result.rest.now ≡ drop result.offset self.now.bytes.now }
     {
-        let bytes = self.bytes;
-        let Ok(()) = self.check() else {
-            let end = bytes.len();
-            return Commands {
-                rest: &bytes[end..],
-                offset: end,
-            };
+        let start = match self.check() {
+            Ok(()) => 2,
+            Err(_) => self.bytes.len(),
         };
         Commands {
-            rest: &bytes[2..],
-            offset: 2,
+            rest: &self.bytes[start..],
+            offset: start,
         }
     }
 }

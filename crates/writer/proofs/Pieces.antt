@@ -22,22 +22,15 @@ text_more rs i d h =
     ap text (take_more rs i d h) ∙ ap entries_bytes (map_push transistor (take i rs) (get_or rs i d))
     ∙ bytes_push (map transistor (take i rs)) (transistor (get_or rs i d))
 
--- what is left of a buffer from `at` on has room
-room : (at need : ℕ) (buf : List ℕ) → at + need ≤ length buf → need ≤ length (take (length buf - at) (drop at buf))
-room at need buf h = omega (arith, ap length (take_rest buf at), length-drop at buf)
-
-pub transistor_room : (n i : ℕ) (buf entry : List ℕ) → i < n → 17 * n ≤ length entry → length buf ≡ length entry → 17 ≤ length (take (length buf - 17 * i) (drop (17 * i) buf))
-transistor_room n i buf entry h few e = room (17 * i) 17 buf (omega arith)
-
 -- one transistor more
-pub put_step : (rs : List Record) (i : ℕ) (d : Record) (buf entry part : List ℕ) → i < length rs → 17 * length rs ≤ length entry → length buf ≡ length entry
-    → buf ≡ over (text (take i rs)) entry → part ≡ over (0x20 ∷ operands (get_or rs i d)) (take (length buf - 17 * i) (drop (17 * i) buf))
-    → put_mid (17 * i) (length buf - 17 * i) buf part ≡ over (text (take (i + 1) rs)) entry
-put_step rs i d buf entry part h few same inv e =
+pub put_step : (rs : List Record) (i : ℕ) (d : Record) (buf entry part : List ℕ) → i < length rs
+    → buf ≡ over (text (take i rs)) entry → part ≡ 0x20 ∷ operands (get_or rs i d)
+    → put_mid (17 * i) (17 * i + 17 - 17 * i) buf part ≡ over (text (take (i + 1) rs)) entry
+put_step rs i d buf entry part h inv e =
     let more = 0x20 ∷ operands (get_or rs i d) in
-    let size : length more ≡ 17 = refl in
     let at : 17 * i ≡ length (text (take i rs)) = omega (arith, entries_length (take i rs), length-take-le i rs (omega arith)) in
-    over_lent (17 * i) (length buf - 17 * i) more buf part (transistor_room (length rs) i buf entry h few same) e
+    ap (put_mid (17 * i) (17 * i + 17 - 17 * i) buf) e
+    ∙ ap (λ k. put_mid (17 * i) k buf more) {y = 17} (omega arith)
     ∙ ap (over_at (17 * i) more) inv ∙ over_more (text (take i rs)) more entry (17 * i) at
     ∙ ap (λ t. over t entry) (sym (text_more rs i d h))
 
@@ -52,7 +45,7 @@ pub begun_length : (buf : List ℕ) → length (begun buf) ≡ length buf
 begun_length buf = length-set (set buf 0 0x10) 1 1 ∙ length-set buf 0 0x10
 
 pub text_room : (rs : List Record) (buf : List ℕ) → length (table_deck rs) ≤ length buf → 17 * length rs ≤ length (take (length (begun buf) - 2) (drop 2 (begun buf)))
-text_room rs buf h = room 2 (17 * length rs) (begun buf) (omega (arith, deck_length rs, begun_length buf))
+text_room rs buf h = omega (arith, deck_length rs, begun_length buf, ap length (take_rest (begun buf) 2), length-drop 2 (begun buf))
 
 -- begin, the transistors and end
 module _ (rs : List Record) (buf part : List ℕ) (h : length (table_deck rs) ≤ length buf) (e : part ≡ over (text rs) (take (length (begun buf) - 2) (drop 2 (begun buf)))) where

@@ -61,17 +61,12 @@ read_back rs =
 number_same : (m n : ℕ) → leb m 1 ≡ true → leb n 1 ≡ true → eqb m 0 ≡ eqb n 0 → m ≡ n
 number_same m n h k e = grind (arith, nat_tests)
 
-kind_same : (a b : Bool) → cond a NChannel PChannel ≡ cond b NChannel PChannel → a ≡ b
-kind_same true true e = refl
-kind_same true false e = cc
-kind_same false true e = cc
-kind_same false false e = refl
-
-side_same : (a b : Bool) → cond a Left Right ≡ cond b Left Right → a ≡ b
-side_same true true e = refl
-side_same true false e = cc
-side_same false true e = cc
-side_same false false e = refl
+-- the answer of a test is known by which of two different values it picks
+picked_same : {A : Type 0} (x y : A) (a b : Bool) → (x ≡ y → ⊥) → cond a x y ≡ cond b x y → a ≡ b
+picked_same x y true true other e = refl
+picked_same x y true false other e = absurd (other e)
+picked_same x y false true other e = absurd (other (sym e))
+picked_same x y false false other e = refl
 
 net_same : (m n : ℕ) → ◌≡◌ {A = List ℕ} (m ∷ []) (n ∷ []) → m ≡ n
 net_same m n e = cc
@@ -96,8 +91,8 @@ unfolding made
 stated_same r q f g e =
     let a = small r f in
     let b = small q g in
-    let kind = number_same r.kind q.kind a.0 b.0 (kind_same (eqb r.kind 0) (eqb q.kind 0) (ap (λ (m : Mod). m.kind) e)) in
-    let side = number_same r.side q.side a.1 b.1 (side_same (eqb r.side 0) (eqb q.side 0) (ap (λ (m : Mod). m.side) e)) in
+    let kind = number_same r.kind q.kind a.0 b.0 (picked_same NChannel PChannel (eqb r.kind 0) (eqb q.kind 0) (λ p. cc) (ap (λ (m : Mod). m.kind) e)) in
+    let side = number_same r.side q.side a.1 b.1 (picked_same Left Right (eqb r.side 0) (eqb q.side 0) (λ p. cc) (ap (λ (m : Mod). m.side) e)) in
     made_same r.kind r.body r.gate r.source r.drain r.width r.tag r.pair r.side
     q.kind q.body q.gate q.source q.drain q.width q.tag q.pair q.side
     kind

@@ -47,53 +47,50 @@ fn put_transistors(records: &[Record], buf: &mut [u8])
     ensures { buf.new ≡ over (entries_bytes (map transistor records.now)) buf.old }
 {
     for (i, record) in records.iter().enumerate() {
-        put_transistor(record, &mut buf[17 * i..]);
+        let at = 17 * i;
+        buf[at..at + 17].copy_from_slice(&transistor_bytes(record));
     }
-}
-
-/// Writes the command of one transistor at the front.
-fn put_transistor(t: &Record, buf: &mut [u8])
-    requires { 17 ≤ length buf.old }
-    ensures { buf.new ≡ over (0x20 ∷ operands t.now) buf.old }
-{
-    buf[0..17].copy_from_slice(&transistor_bytes(t));
 }
 
 /// The command of one transistor.
 fn transistor_bytes(t: &Record) -> [u8; 17]
     ensures { result ≡ 0x20 ∷ operands t.now }
 {
+    let Record {
+        kind,
+        body,
+        gate,
+        source,
+        drain,
+        width,
+        tag,
+        pair,
+        side,
+    } = *t;
+    let [body_high, body_low] = body.to_be_bytes();
+    let [gate_high, gate_low] = gate.to_be_bytes();
+    let [source_high, source_low] = source.to_be_bytes();
+    let [drain_high, drain_low] = drain.to_be_bytes();
+    let [width_high, width_low] = width.to_be_bytes();
+    let [tag_high, tag_low] = tag.to_be_bytes();
+    let [pair_high, pair_low] = pair.to_be_bytes();
     [
         0x20,
-        t.kind,
-        high(t.body),
-        low(t.body),
-        high(t.gate),
-        low(t.gate),
-        high(t.source),
-        low(t.source),
-        high(t.drain),
-        low(t.drain),
-        high(t.width),
-        low(t.width),
-        high(t.tag),
-        low(t.tag),
-        high(t.pair),
-        low(t.pair),
-        t.side,
+        kind,
+        body_high,
+        body_low,
+        gate_high,
+        gate_low,
+        source_high,
+        source_low,
+        drain_high,
+        drain_low,
+        width_high,
+        width_low,
+        tag_high,
+        tag_low,
+        pair_high,
+        pair_low,
+        side,
     ]
-}
-
-/// The high byte of a number of two bytes.
-fn high(n: u16) -> u8
-    ensures { result ≡ n / 256 }
-{
-    (n / 256) as u8
-}
-
-/// The low byte of a number of two bytes.
-fn low(n: u16) -> u8
-    ensures { result ≡ n % 256 }
-{
-    (n % 256) as u8
 }

@@ -17,5 +17,5 @@ returns-in_err-commands c =
 
 pub returns : goal.returns
 returns c =
-    let a = checked_answer_lem c.args.bytes.now c.in_ok-commands.commands.now c.check_commands.result c.if-bytes-gt-MOST_BYTES.false c.in_ok-commands.ensures c.check_commands.ensures in
+    let a = checked_answer_lem c.args.bytes.now c.in_ok-commands.commands.rest.now c.check_commands.result c.if-bytes-gt-MOST_BYTES.false c.in_ok-commands.ensures.0 c.check_commands.ensures in
     record { value = a.value; rules = a.rules }

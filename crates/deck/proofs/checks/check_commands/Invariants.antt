@@ -3,7 +3,7 @@ use Rattle.deck.specs.Passes.{Passed}
 use Rattle.deck.proofs.checks.check_commands.Given as goal
 
 abbrev pub invariant-loop-command : goal.invariant-loop-command
-invariant-loop-command l = Passed l.commands l.rest l.offset l.transistors
+invariant-loop-command l = Passed l.fn.commands.rest.now l.left.rest.now l.left.offset l.transistors
 
 abbrev pub decreases-loop-command : goal.decreases-loop-command
-decreases-loop-command l = length l.rest
+decreases-loop-command l = length l.left.rest.now

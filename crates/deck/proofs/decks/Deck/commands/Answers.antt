@@ -1,22 +1,18 @@
-use Rattle.std.proofs.Common.{arith, rules}
-use Rattle.deck.proofs.Readings.{accepted_long, accepted_handed, refused_handed}
+use Rattle.std.proofs.Common.{◌≤◌, length, ap, ◌∙◌, rules}
+use Rattle.std.proofs.lemmas.List.{take_rest}
+use Rattle.deck.specs.Verdicts.{entries_in}
+use Rattle.deck.proofs.Readings.{handed}
 use Rattle.deck.proofs.decks.Deck.commands.Goals as goal
 
-pub returns-in_default : goal.returns-in_default
-returns-in_default c =
-    let h = refused_handed c.args.self.now.bytes.now c.check.result c.check.ensures _ c.in_default.is in
-    record { entries = h.entries; start = h.start; part = h.part }
+pub slice_bounds-result-count : goal.slice_bounds-result-count
+slice_bounds-result-count c = (handed c.args.self.now.bytes.now c.match-check.start (search rules)).0
 
--- an accepted deck has begin and its edition
-pub slice_bounds-result-count-2 : goal.slice_bounds-result-count-2
-slice_bounds-result-count-2 c = omega (arith, accepted_long c.args.self.now.bytes.now c.check.result c.check.ensures c.in-Ok.is)
-
-pub slice_bounds-result-start-2 : goal.slice_bounds-result-start-2
-slice_bounds-result-start-2 c =
-    let h = accepted_long c.args.self.now.bytes.now c.check.result c.check.ensures c.in-Ok.is in
+pub slice_bounds-result-start : goal.slice_bounds-result-start
+slice_bounds-result-start c =
+    let h : c.match-check.start ≤ length c.args.self.now.bytes.now = (handed c.args.self.now.bytes.now c.match-check.start (search rules)).0 in
     search rules
 
-pub returns : goal.returns
-returns c =
-    let h = accepted_handed c.args.self.now.bytes.now c.check.result c.check.ensures c.in-Ok.is in
-    record { entries = h.entries; start = h.start; part = h.part }
+pub returns-clause-entries : goal.returns-clause-entries
+returns-clause-entries c =
+    let bs = c.args.self.now.bytes.now in
+    ap (entries_in 0) (take_rest bs c.match-check.start) ∙ (handed bs c.match-check.start (search rules)).1
