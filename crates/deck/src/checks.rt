@@ -10,12 +10,10 @@ use crate::commands::Command;
 use crate::reader::Commands;
 use record::{Field, Record};
 use refusal::Refusal;
+use table::MOST_TRANSISTORS;
 
 /// A deck has no more bytes than this.
 const MOST_BYTES: usize = 16384;
-
-/// A deck has no more transistors than this.
-const MOST_TRANSISTORS: usize = 256;
 
 /// The check of a deck: length first, then begin, then command by command.
 pub fn check(bytes: &[u8]) -> Result<(), Refusal>

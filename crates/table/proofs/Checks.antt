@@ -1,83 +1,82 @@
 -- The loop of a table's check, and what an accepted table gives of its records.
-use Rattle.std.proofs.Common.{◌≡◌, ℕ, zero, suc, ◌+◌, ◌<◌, ◌≤◌, true, false, cond, List, [], ◌∷◌, map, length, get_or, drop, Some, None, Ok, Err, sym, refl, ap, ◌∙◌, arith}
-use Rattle.std.specs.List.{slice_get, AllByRecursion}
-use Rattle.std.proofs.lemmas.List.{drop_more, drop_all, length-map, get_or-map}
-use Rattle.std.proofs.lemmas.Option.{slice_get-get_or}
-use Rattle.std.proofs.lemmas.Bool.{le-ltb}
-use Rattle.refusal.specs.declared.refusal.Refusal.TheVariants.{OutOfRange, TooManyTransistors}
+use Rattle.std.proofs.Common.{◌≡◌, ℕ, zero, suc, ◌+◌, ◌<◌, ◌≤◌, Bool, true, false, cond, not, nat_lt, List, [], ◌∷◌, map, length, drop, Some, None, Ok, Err, Result, MatchResult, sym, refl, ap, ◌∙◌, arith, ⊎_elim}
+use Rattle.std.specs.List.{slice_get, position, position_from, AllByRecursion}
+use Rattle.std.proofs.lemmas.List.{drop_more, drop_all, drop-map}
+use Rattle.std.proofs.Math.Seq.{drop-nil}
+use Rattle.std.proofs.lemmas.Option.{none-some, slice_get_within, slice_get_cases, slice_get-map, get_or_from_slice_get}
+use Rattle.std.specs.Option.{option_map}
+use Rattle.std.specs.Result.{result_ok}
+use Rattle.net.specs.declared.modules.Module.{Module}
+use Rattle.net.specs.declared.keys.NumberKey.{NumberKey}
+use Rattle.record.specs.declared.field.Field.{Field}
+use Rattle.std.proofs.lemmas.Bool.{le-ltb, cond-false}
+use Rattle.std.proofs.lemmas.Iterator.Adapters.{position_from-zero}
+use Rattle.refusal.specs.declared.refusal.Refusal.TheVariants.{OutOfRange}
 use Rattle.net.specs.Mods.{Mod}
 use Rattle.record.specs.declared.records.Record.{Record}
-use Rattle.record.specs.Records.{fits, stated}
-use Rattle.table.specs.Tables.{Verdict, unfit_from, table_verdict, told_by, stated_by}
+use Rattle.record.specs.Records.{fits, first_unfit, stated, told}
+use Rattle.table.specs.Tables.{Verdict, unfit_from, table_verdict, told_by}
 use Rattle.circuit.proofs.Lengths.{lawful_length}
-use Rattle.table.specs.Lawfuls.{err_ok, table_checked, table_lawful}
+use Rattle.table.specs.Lawfuls.{table_lawful}
 
-module _ (rs : List Record) (i : ℕ) (d : Record) (h : i < length rs) where
-  at_record : unfit_from i (drop i rs) ≡ cond (fits (get_or rs i d)) (unfit_from (i + 1) (drop (i + 1) rs)) (Err (OutOfRange i))
-  at_record = ap (unfit_from i) (drop_more rs i d h)
+-- a test by the place of the first record that is out of range
+unfit_none : (i : ℕ) (rs : List Record) → position_from (λ r. not (fits r)) i rs ≡ None → unfit_from i rs ≡ Ok tt
+unfit_none i [] h = refl
+unfit_none i (r ∷ rs) h = go (fits r) (unfit_none (i + 1) rs) h
+  where
+    go : (b : Bool) → (position_from (λ r. not (fits r)) (i + 1) rs ≡ None → unfit_from (i + 1) rs ≡ Ok tt) → cond (not b) (Some i) (position_from (λ r. not (fits r)) (i + 1) rs) ≡ None → cond b (unfit_from (i + 1) rs) (Err (OutOfRange i)) ≡ Ok tt
+    go true f h = f h
+    go false f h = absurd (cc)
 
-  pub unfit_more : fits (get_or rs i d) ≡ true → unfit_from (i + 1) (drop (i + 1) rs) ≡ unfit_from i (drop i rs)
-  unfit_more e = sym (at_record ∙ ap (λ b. cond b (unfit_from (i + 1) (drop (i + 1) rs)) (Err (OutOfRange i))) e)
-
-  pub unfit_here : fits (get_or rs i d) ≡ false → unfit_from i (drop i rs) ≡ Err (OutOfRange i)
-  unfit_here e = at_record ∙ ap (λ b. cond b (unfit_from (i + 1) (drop (i + 1) rs)) (Err (OutOfRange i))) e
-
-pub unfit_all : (rs : List Record) (i : ℕ) → length rs ≤ i → unfit_from i (drop i rs) ≡ Ok tt
-unfit_all rs i h = ap (unfit_from i) (drop_all i rs h)
+unfit_some : (i : ℕ) (rs : List Record) (k : ℕ) → position_from (λ r. not (fits r)) i rs ≡ Some k → unfit_from i rs ≡ Err (OutOfRange k)
+unfit_some i [] k h = absurd (cc)
+unfit_some i (r ∷ rs) k h = go (fits r) (unfit_some (i + 1) rs k) h
+  where
+    go : (b : Bool) → (position_from (λ r. not (fits r)) (i + 1) rs ≡ Some k → unfit_from (i + 1) rs ≡ Err (OutOfRange k)) → cond (not b) (Some i) (position_from (λ r. not (fits r)) (i + 1) rs) ≡ Some k → cond b (unfit_from (i + 1) rs) (Err (OutOfRange i)) ≡ Err (OutOfRange k)
+    go true f h = f h
+    go false f h = cc
 
 -- what the check answers, where there are few enough records
-pub verdict_few : (rs : List Record) (o : Verdict) → length rs ≤ 256 → unfit_from 0 rs ≡ o → o ≡ table_verdict rs
-verdict_few rs o h f = sym (ap (λ b. cond b (Err (TooManyTransistors 256)) (unfit_from 0 rs)) (le-ltb 256 (length rs) h) ∙ f)
+module _ (rs : List Record) (few : length rs ≤ 256) where
+  few_verdict : unfit_from 0 rs ≡ table_verdict rs
+  few_verdict = sym (cond-false (nat_lt 256 (length rs)) _ _ (le-ltb 256 (length rs) few))
 
-stated_fit : (rs : List Record) (i : ℕ) → AllByRecursion (λ r. fits r ≡ true) rs → stated_by (slice_get rs i) ≡ slice_get (map stated rs) i
-stated_fit [] i h = refl
-stated_fit (r ∷ rs) zero h = ap (λ b. cond b (Some (stated r)) None) h.0
-stated_fit (r ∷ rs) (suc i) h = stated_fit rs i h.1
+  pub verdict_none : None ≡ position (λ r. not (fits r)) rs → Ok tt ≡ table_verdict rs
+  verdict_none h = sym (unfit_none 0 rs (sym (h ∙ position_from-zero (λ r. not (fits r)) rs))) ∙ few_verdict
 
--- what an accepted table tells at a position is what the record there states
-pub told_at : (v : Verdict) (rs : List Record) (i : ℕ) → v ≡ table_verdict rs → v ≡ Ok tt → stated_by (slice_get rs i) ≡ slice_get (told_by v rs) i
-told_at (Ok u) rs i e n = stated_fit rs i (table_checked rs (sym e)).fit
-told_at (Err x) rs i e n = err_ok x n
+  pub verdict_some : (k : ℕ) → Some k ≡ position (λ r. not (fits r)) rs → Err (OutOfRange k) ≡ table_verdict rs
+  verdict_some k h = sym (unfit_some 0 rs k (sym (h ∙ position_from-zero (λ r. not (fits r)) rs))) ∙ few_verdict
 
-blank : Record
-blank = record { kind = 0; body = 0; gate = 0; source = 0; drain = 0; width = 0; tag = 0; pair = 0; side = 0 }
+fit_at : (rs : List Record) (i : ℕ) (r : Record) → AllByRecursion (λ r. fits r ≡ true) rs → slice_get rs i ≡ Some r → fits r ≡ true
+fit_at [] i r h e = absurd (cc)
+fit_at (q ∷ rs) zero r h e = let same : q ≡ r = cc in rw (← same) h.0
+fit_at (q ∷ rs) (suc i) r h e = fit_at rs i r h.1 e
 
-some_within : {X : Type 0} (xs : List X) (i : ℕ) (x : X) → slice_get xs i ≡ Some x → i < length xs
-some_within [] i x h = let z : ◌≡◌ {A = ℕ} 0 1 = cc in absurd (omega arith)
-some_within (y ∷ xs) zero x h = omega arith
-some_within (y ∷ xs) (suc i) x h = omega (arith, some_within xs i x h)
-
-none_past : {X : Type 0} (xs : List X) (i : ℕ) → slice_get xs i ≡ None → length xs ≤ i
-none_past [] i h = omega arith
-none_past (y ∷ xs) zero h = let z : ◌≡◌ {A = ℕ} 0 1 = cc in absurd (omega arith)
-none_past (y ∷ xs) (suc i) h = omega (arith, none_past xs i h)
+-- the record at a position is in range, so its conversion gives the module that it states
+pub module_stated : (rs : List Record) (i : ℕ) (r : Record) (o : Result (Module NumberKey) Field) → AllByRecursion (λ r. fits r ≡ true) rs → slice_get rs i ≡ Some r
+    → MatchResult o (λ m. (fits r ≡ true) × (told m ≡ stated r)) (λ f. (fits r ≡ false) × (f ≡ first_unfit r))
+    → option_map told (result_ok o) ≡ slice_get (map stated rs) i
+module_stated rs i r (Ok m) h e w = ap Some w.1 ∙ sym (slice_get-map stated rs i ∙ ap (option_map stated) e)
+module_stated rs i r (Err f) h e w = let yes = fit_at rs i r h e in let no = w.0 in absurd (cc)
 
 -- a position at which a table tells a module is small
 pub position_few : (o : Verdict) (rs : List Record) (i : ℕ) (x : Mod) → o ≡ table_verdict rs → slice_get (told_by o rs) i ≡ Some x → i < 1048320
-position_few o rs i x e h = omega (arith, some_within (told_by o rs) i x h, lawful_length (told_by o rs) (table_lawful o rs e))
+position_few o rs i x e h = omega (arith, slice_get_within (told_by o rs) i x h, lawful_length (told_by o rs) (table_lawful o rs e))
 
 -- one step of a pass over a table
+told_drop : (o : Verdict) (rs : List Record) (i : ℕ) → told_by o (drop i rs) ≡ drop i (told_by o rs)
+told_drop (Ok u) rs i = sym (drop-map stated i rs)
+told_drop (Err x) rs i = sym (drop-nil i)
+
 pub step_some : (o : Verdict) (rs : List Record) (i : ℕ) (x : Mod) → slice_get (told_by o rs) i ≡ Some x → told_by o (drop i rs) ≡ x ∷ told_by o (drop (i + 1) rs)
-step_some (Ok u) rs i x h =
-    let lt : i < length rs = omega (arith, some_within (map stated rs) i x h, length-map rs stated) in
-    let at = slice_get-get_or (map stated rs) i (stated blank) (omega (arith, length-map rs stated)) in
-    let same = get_or-map stated rs i blank (stated blank) lt in
-    let here : x ≡ stated (get_or rs i blank) = cc in
-    ap (map stated) (drop_more rs i blank lt) ∙ ap (λ m. m ∷ map stated (drop (i + 1) rs)) (sym here)
-step_some (Err y) rs i x h = let z : ◌≡◌ {A = ℕ} 0 1 = cc in absurd (omega arith)
+step_some o rs i x h =
+    let ms = told_by o rs in
+    told_drop o rs i ∙ drop_more ms i x (slice_get_within ms i x h)
+    ∙ ap (λ y. y ∷ drop (i + 1) ms) (get_or_from_slice_get ms i x x h)
+    ∙ ap (λ t. x ∷ t) (sym (told_drop o rs (i + 1)))
+
+none_past : {X : Type 0} (xs : List X) (i : ℕ) → slice_get xs i ≡ None → length xs ≤ i
+none_past xs i h = ⊎_elim (λ w. absurd (none-some w.0 (sym h ∙ w.2))) (λ w. w.0) (slice_get_cases xs i).1
 
 pub step_none : (o : Verdict) (rs : List Record) (i : ℕ) → slice_get (told_by o rs) i ≡ None → told_by o (drop i rs) ≡ []
-step_none (Ok u) rs i h = ap (map stated) (drop_all i rs (omega (arith, none_past (map stated rs) i h, length-map rs stated)))
-step_none (Err y) rs i h = refl
-
--- how many modules an accepted table tells
-pub told_length : (o : Verdict) (rs : List Record) → o ≡ Ok tt → length rs ≡ length (told_by o rs)
-told_length (Ok u) rs n = sym (length-map rs stated)
-told_length (Err y) rs n = err_ok y n
-
--- what the record at a position states, by what its conversion found
-pub stated_true : (rs : List Record) (i : ℕ) (d : Record) (m : Mod) → i < length rs → (fits (get_or rs i d) ≡ true) × (m ≡ stated (get_or rs i d)) → stated_by (slice_get rs i) ≡ Some m
-stated_true rs i d m h e = ap stated_by (slice_get-get_or rs i d h) ∙ ap (λ b. cond b (Some (stated (get_or rs i d))) None) e.0 ∙ ap Some (sym e.1)
-
-pub stated_false : (rs : List Record) (i : ℕ) (d : Record) → i < length rs → fits (get_or rs i d) ≡ false → stated_by (slice_get rs i) ≡ None
-stated_false rs i d h e = ap stated_by (slice_get-get_or rs i d h) ∙ ap (λ b. cond b (Some (stated (get_or rs i d))) None) e
+step_none o rs i h = told_drop o rs i ∙ drop_all i (told_by o rs) (none_past (told_by o rs) i h)

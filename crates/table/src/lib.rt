@@ -5,4 +5,4 @@
 mod reading;
 mod tables;
 
-pub use tables::Table;
+pub use tables::{MOST_TRANSISTORS, Table};
