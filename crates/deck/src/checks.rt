@@ -8,6 +8,7 @@ ghost use Rattle.deck.specs.Verdicts.{deck_verdict, at_end, transistor_verdict};
 
 use crate::commands::Command;
 use crate::reader::Commands;
+use net::Module;
 use record::{Field, Record};
 use refusal::Refusal;
 use table::MOST_TRANSISTORS;
@@ -80,7 +81,7 @@ fn check_transistor(transistor: &Record, offset: usize, before: usize) -> Result
     if before >= MOST_TRANSISTORS {
         return Err(Refusal::TooManyTransistors { place: offset });
     }
-    match transistor.module() {
+    match Module::try_from(transistor) {
         Ok(_) => Ok(()),
         Err(field) => Err(Refusal::OutOfRange {
             place: offset + 1 + operand_offset(field),

@@ -68,7 +68,7 @@ impl<'a> Circuit for Deck<'a> {
     fn next(&self, cursor: &mut Commands<'a>) -> Option<Module<NumberKey>> {
         while let Some(command) = cursor.next() {
             if let Command::Transistor(transistor) = command {
-                if let Ok(m) = transistor.module() {
+                if let Ok(m) = Module::try_from(&transistor) {
                     return Some(m);
                 }
             }

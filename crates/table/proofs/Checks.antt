@@ -1,5 +1,5 @@
 -- The loop of a table's check, and what an accepted table gives of its records.
-use Rattle.std.proofs.Common.{◌≡◌, ℕ, zero, suc, ◌+◌, ◌<◌, ◌≤◌, Bool, true, false, cond, not, nat_lt, List, [], ◌∷◌, map, length, drop, Some, None, Ok, Err, Result, MatchResult, sym, refl, ap, ◌∙◌, arith, ⊎_elim}
+use Rattle.std.proofs.Common.{◌≡◌, ℕ, zero, suc, ◌+◌, ◌<◌, ◌≤◌, Bool, true, false, cond, not, nat_lt, List, [], ◌∷◌, map, length, drop, Some, None, Ok, Err, Result, sym, refl, ap, ◌∙◌, arith, ⊎_elim}
 use Rattle.std.specs.List.{slice_get, position, position_from, AllByRecursion}
 use Rattle.std.proofs.lemmas.List.{drop_more, drop_all, drop-map}
 use Rattle.std.proofs.Math.Seq.{drop-nil}
@@ -12,9 +12,9 @@ use Rattle.record.specs.declared.field.Field.{Field}
 use Rattle.std.proofs.lemmas.Bool.{le-ltb, cond-false}
 use Rattle.std.proofs.lemmas.Iterator.Adapters.{position_from-zero}
 use Rattle.refusal.specs.declared.refusal.Refusal.TheVariants.{OutOfRange}
-use Rattle.net.specs.Mods.{Mod}
+use Rattle.net.specs.Mods.{Mod, number_told}
 use Rattle.record.specs.declared.records.Record.{Record}
-use Rattle.record.specs.Records.{fits, first_unfit, stated, told}
+use Rattle.record.specs.Records.{fits, stated, ReadsRecord}
 use Rattle.table.specs.Tables.{Verdict, unfit_from, table_verdict, told_by}
 use Rattle.circuit.proofs.Lengths.{lawful_length}
 use Rattle.table.specs.Lawfuls.{table_lawful}
@@ -53,9 +53,8 @@ fit_at (q ∷ rs) zero r h e = let same : q ≡ r = cc in rw (← same) h.0
 fit_at (q ∷ rs) (suc i) r h e = fit_at rs i r h.1 e
 
 -- the record at a position is in range, so its conversion gives the module that it states
-pub module_stated : (rs : List Record) (i : ℕ) (r : Record) (o : Result (Module NumberKey) Field) → AllByRecursion (λ r. fits r ≡ true) rs → slice_get rs i ≡ Some r
-    → MatchResult o (λ m. (fits r ≡ true) × (told m ≡ stated r)) (λ f. (fits r ≡ false) × (f ≡ first_unfit r))
-    → option_map told (result_ok o) ≡ slice_get (map stated rs) i
+pub module_stated : (rs : List Record) (i : ℕ) (r : Record) (o : Result (Module NumberKey) Field) → AllByRecursion (λ r. fits r ≡ true) rs → slice_get rs i ≡ Some r → ReadsRecord r o
+    → option_map number_told (result_ok o) ≡ slice_get (map stated rs) i
 module_stated rs i r (Ok m) h e w = ap Some w.1 ∙ sym (slice_get-map stated rs i ∙ ap (option_map stated) e)
 module_stated rs i r (Err f) h e w = let yes = fit_at rs i r h e in let no = w.0 in absurd (cc)
 

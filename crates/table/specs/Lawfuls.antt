@@ -10,7 +10,8 @@ use Rattle.refusal.specs.declared.refusal.Refusal.TheVariants.{OutOfRange, TooMa
 use Rattle.net.specs.Mods.{Mod, InRange, Lawful}
 use Rattle.net.specs.declared.modules.Side.TheVariants.{Left, Right}
 use Rattle.record.specs.declared.records.Record.{Record}
-use Rattle.record.specs.Records.{kind_fits, width_fits, side_fits, fits, stated}
+use Rattle.net.specs.Numbers.{kind_fits}
+use Rattle.record.specs.Records.{width_fits, side_fits, fits, stated}
 use Rattle.table.specs.Tables.{Verdict, unfit_from, table_verdict, told_by}
 
 left_of_none : (pair side : ℕ) → side_fits pair side ≡ true → pair ≡ 0 → (side == 0) ≡ true

@@ -36,6 +36,7 @@ impl<'a> Circuit for Table<'a> {
 
     /// Answered in one step.
     fn module(&self, position: usize) -> Option<Module<NumberKey>> {
-        self.accepted().get(position)?.module().ok()
+        let r = self.accepted().get(position)?;
+        Module::try_from(r).ok()
     }
 }

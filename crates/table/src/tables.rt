@@ -5,6 +5,7 @@ ghost use Rattle.std.specs.List.{AllByRecursion, position};
 ghost use Rattle.record.specs.Records.{fits, stated};
 ghost use Rattle.table.specs.Tables.{table_verdict, told_by};
 
+use net::Module;
 use record::Record;
 use refusal::Refusal;
 
@@ -82,5 +83,5 @@ fn first_unfit_place(records: &[Record]) -> Option<usize>
 fn is_unfit(r: &Record) -> bool
     ensures { result ≡ not (fits r.now) }
 {
-    r.module().is_err()
+    Module::try_from(r).is_err()
 }

@@ -9,7 +9,8 @@ use Rattle.net.specs.declared.modules.Side.TheVariants.{Left, Right}
 use Rattle.net.specs.Mods.{Mod}
 use Rattle.record.specs.declared.records.Record.{Record}
 use Rattle.table.specs.Lawfuls.{table_checked}
-use Rattle.record.specs.Records.{kind_fits, width_fits, fits, stated}
+use Rattle.net.specs.Numbers.{kind_fits}
+use Rattle.record.specs.Records.{width_fits, fits, stated}
 use Rattle.table.specs.Tables.{table_verdict, told_by}
 use Rattle.deck.specs.Format.{Entry, transistor, remark, entry_bytes, entries_bytes, deck_bytes, records_of, Keeps}
 use Rattle.deck.specs.Rules.{Accepted}
