@@ -1,5 +1,5 @@
-use Rattle.std.proofs.Common.{sym, arith}
-use Rattle.table.proofs.Checks.{position_few, step_some, step_none}
+use Rattle.std.proofs.Common.{sym}
+use Rattle.table.proofs.Checks.{step_some, step_none}
 use Rattle.table.proofs.reading.TableCircuit.next.Goals as goal
 
 pub returns-in_err-m : goal.returns-in_err-m
@@ -7,11 +7,6 @@ returns-in_err-m c =
     let t = c.args.self.now in
     let none = step_none t.verdict t.records.now c.args.cursor.now (sym c.in_err-m.ensures) in
     rw c.from_residual.ensures (none, none)
-
-pub overflow_add-cursor : goal.overflow_add-cursor
-overflow_add-cursor c =
-    let t = c.args.self.now in
-    omega (arith, position_few t.verdict t.records.now c.args.cursor.now _ t.checked (sym c.in_ok-m.ensures))
 
 pub returns : goal.returns
 returns c =
