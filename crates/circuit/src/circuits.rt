@@ -32,6 +32,7 @@ pub trait Circuit {
         ensures { Steps Self.Key.NetKey.net (rest self.now cursor.old) result (rest self.now cursor.new) };
 
     /// How many modules there are.
+    // Counted by hand: no proof can hand a trait on from a body in that trait, as `modules(self)` would.
     fn count(&self) -> usize
         ensures { result ≡ length (list self.now) }
     {

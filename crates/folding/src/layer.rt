@@ -13,6 +13,7 @@ use net::{Module, NetKey};
 #[derive(Clone, Copy, Drop)]
 pub struct Folding<C> {
     below: C,
+    // A number and no Option: the rule is that 0 folds nothing.
     limit: u16,
 }
 

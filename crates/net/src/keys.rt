@@ -9,6 +9,7 @@ pub trait NetKey: Copy {
     ghost net: { Self → Net };
 
     /// Whether both keys name one net.
+    // No `==`: keys that differ can name one net, and an equality would owe three laws where this has one clause.
     fn same(&self, other: &Self) -> bool
         ensures { Decides result (net self.now ≡ net other.now) };
 }

@@ -22,6 +22,7 @@ pub enum Kind {
 #[derive(Clone, Copy, PartialEq, Eq)]
 pub struct UnknownKind(pub u8);
 
+// The same four impls stand at `Side`: an impl of one of std's traits is for one type.
 impl TryFrom<u8> for Kind {
     type Error = UnknownKind;
 
@@ -137,6 +138,7 @@ impl<K> Module<K> {
 
 impl<K: NetKey> Module<K> {
     /// Whether both modules are of one class: of one kind, on one body net, and both paired or both not.
+    // No `==`: modules of one class may differ in all else.
     pub fn same_class(&self, other: &Module<K>) -> bool
         ensures test { result ≡ same_class (meaning K.NetKey.net self.now) (meaning K.NetKey.net other.now) }
         ensures class { IsTrue result ↔ SameClass (meaning K.NetKey.net self.now) (meaning K.NetKey.net other.now) }

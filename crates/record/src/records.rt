@@ -11,6 +11,7 @@ use net::{Kind, Module, NumberKey, Pairing, Side, Width};
 use std::num::NonZeroU16;
 
 /// The fields of a transistor as numbers, some of which may be out of range.
+// Numbers and no enums: a deck or a caller may state any, and the check is to name the field that is out of range.
 #[derive(Clone, Copy)]
 pub struct Record {
     /// 0 for n-channel, 1 for p-channel
@@ -70,6 +71,7 @@ impl From<Module<NumberKey>> for Record {
 }
 
 /// The pairing of that pair number and that side.
+// No `TryFrom`: the two numbers have no type of their own in a record.
 fn pairing_of(pair: u16, side: u8) -> Result<Option<Pairing>, Field>
     ensures { MatchResult result (λ p. (pair < 65536) × (side_fits pair side ≡ true) × (pair_of p ≡ pair) × (side_of p ≡ side_of_number side)) (λ f. (side_fits pair side ≡ false) × (f ≡ SideField)) }
 {

@@ -18,6 +18,7 @@ pub enum Layer {
 
 impl Layer {
     /// The layer's number.
+    // No `From`: beside this name it would be a second spelling of the same number.
     pub fn number(&self) -> u8
         ensures { result ≡ layer_number self.now }
     {

@@ -45,6 +45,7 @@ pub enum Refusal {
 
 impl Refusal {
     /// The number of the reason.
+    // Written out: the format fixes the numbers, and a variant with fields has none of its own.
     pub fn number(&self) -> u8
         ensures { result ≡ number_of self.now }
     {

@@ -38,6 +38,7 @@ impl<C: Circuit<Key = NumberKey>> Circuit for Row<C> {
 
     #[tactic(auto, using(crate::proofs::Steps::rest_over))]
     fn next(&self, cursor: &mut RowCursor<C::Cursor>) -> Option<Module<InstanceKey>> {
+        // Counted in the cursor, since a pass may stop behind any module.
         while cursor.instance < self.told {
             if let Some(m) = self.cell.next(&mut cursor.cell) {
                 let Some(room) = room_behind(cursor.room, &m) else {

@@ -21,6 +21,7 @@ pub struct Row<C> {
     ghost few: { told ≤ 16 },
 }
 
+// Written out: a derived `Clone` over a ghost field is not proved at a type parameter.
 impl<C: Copy> Clone for Row<C> {
     ghost is_clone = { λ x y. y ≡ x };
 
