@@ -17,7 +17,7 @@ pub(crate) struct Fingers<K> {
     ghost narrow: { count ≤ whole.width.steps },
 }
 
-// Written out: a derived `Clone` over a ghost field is not proved at a type parameter.
+// Written out: a derive is refused over a ghost field of a type with parameters.
 impl<K: Copy> Clone for Fingers<K> {
     ghost is_clone = { λ x y. y ≡ x };
 

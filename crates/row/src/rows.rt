@@ -21,7 +21,7 @@ pub struct Row<C> {
     ghost few: { told ≤ 16 },
 }
 
-// Written out: a derived `Clone` over a ghost field is not proved at a type parameter.
+// Written out: a derive is refused over a ghost field of a type with parameters.
 impl<C: Copy> Clone for Row<C> {
     ghost is_clone = { λ x y. y ≡ x };
 
