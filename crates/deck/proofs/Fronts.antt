@@ -1,6 +1,5 @@
 -- The first byte of a slice, and what is read behind it.
-use Rattle.std.proofs.Common.{◌≡◌, ℕ, ◌+◌, ◌-◌, ◌<◌, ◌≤◌, List, ◌∷◌, ◌++◌, length, get_or, take, drop, refl, ap, ◌∙◌, arith}
-use Rattle.std.proofs.lemmas.List.{nil_from_length}
+use Rattle.std.proofs.Common.{◌≡◌, ℕ, ◌+◌, ◌-◌, ◌<◌, ◌≤◌, List, ◌∷◌, length, get_or, take, drop, refl, ap, ◌∙◌, arith}
 use Rattle.std.proofs.lemmas.Slice.{first_rest}
 use Rattle.refusal.specs.declared.refusal.Refusal.{Refusal}
 use Rattle.refusal.specs.declared.refusal.Refusal.TheVariants.{UnknownCommand, CutShort, OutOfOrder}
@@ -9,9 +8,6 @@ use Rattle.deck.specs.Rules.{NoCommand, Unreadable}
 -- what stands behind the first byte, as the checker reads it
 abbrev pub behind : List ℕ → List ℕ
 behind bs = take (length bs - 1) (drop 1 bs)
-
-pub no_front : (offset : ℕ) (bs : List ℕ) → length bs < 1 → Unreadable offset bs (CutShort offset)
-no_front offset bs h = Unreadable.no_byte (nil_from_length bs (omega arith)) refl
 
 module _ (offset : ℕ) (bs : List ℕ) (some : 1 ≤ length bs) where
   pub front : (b : ℕ) → get_or bs 0 0 ≡ b → bs ≡ b ∷ behind bs
@@ -31,6 +27,3 @@ module _ (offset : ℕ) (bs : List ℕ) (some : 1 ≤ length bs) where
 
   pub front_cut_remark : (x : Refusal) → get_or bs 0 0 ≡ 0x30 → (length (behind bs) < 16) × (x ≡ CutShort (offset + 1 + length (behind bs))) → Unreadable offset bs x
   front_cut_remark x e h = Unreadable.cut_remark (behind bs) (front 0x30 e) h.0 (place 0x30 x e h.1)
-
-  pub front_operands : (b : ℕ) (part rest : List ℕ) → get_or bs 0 0 ≡ b → behind bs ≡ part ++ rest → bs ≡ b ∷ (part ++ rest)
-  front_operands b part rest e s = front b e ∙ ap (λ q. b ∷ q) s

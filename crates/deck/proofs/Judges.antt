@@ -1,9 +1,10 @@
 -- The check of a deck, step by step, and that its answer is the one that the rules give.
 use Rattle.std.proofs.Common.{◌≡◌, ℕ, ◌+◌, ◌<◌, ◌≤◌, Bool, true, false, cond, List, [], ◌∷◌, ◌++◌, length, get_or, Ok, Err, sym, refl, ap, ◌∙◌, append_assoc, arith, MatchResult, Bor, nat_lt, ltb-true, ltb-false}
 use Rattle.std.specs.List.{AllByRecursion}
-use Rattle.std.proofs.lemmas.List.{length-append, nil_from_length}
+use Rattle.std.proofs.lemmas.List.{length-append}
+use Rattle.std.proofs.lemmas.Grind.{flat_map-append}
 use Rattle.refusal.specs.declared.refusal.Refusal.{Refusal}
-use Rattle.refusal.specs.declared.refusal.Refusal.TheVariants.{CutShort, OutOfOrder, OutOfRange, TooManyTransistors}
+use Rattle.refusal.specs.declared.refusal.Refusal.TheVariants.{OutOfOrder, OutOfRange, TooManyTransistors}
 use Rattle.record.specs.declared.records.Record.{Record}
 use Rattle.record.specs.Records.{fits, first_unfit}
 use Rattle.table.specs.Tables.{Verdict}
@@ -14,19 +15,14 @@ use Rattle.deck.specs.Format.{Entry, transistor, remark, operands, operand_offse
 use Rattle.deck.specs.Rules.{Accepted, Unreadable, Stops, Unopened, Refused, Judged}
 use Rattle.deck.specs.Passes.{Passed, Ended, Stopped}
 use Rattle.deck.specs.Verdicts.{at_end, transistor_verdict, deck_verdict}
-use Rattle.table.specs.Lawfuls.{err_ok}
 use Rattle.deck.proofs.Written.{accepted_verdict, refused_verdict}
 use Rattle.deck.proofs.Fronts.{behind, front}
 
 -- one entry more
 
-pub bytes_push : (es : List Entry) (e : Entry) → entries_bytes (es ++ e ∷ []) ≡ entries_bytes es ++ (entry_bytes e ++ [])
-bytes_push [] e = refl
-bytes_push (x ∷ es) e = ap (λ q. entry_bytes x ++ q) (bytes_push es e) ∙ sym (append_assoc (entry_bytes x) (entries_bytes es) (entry_bytes e ++ []))
-
 bytes_before : (es : List Entry) (e : Entry) (rest : List ℕ) → entries_bytes (es ++ e ∷ []) ++ rest ≡ entries_bytes es ++ (entry_bytes e ++ rest)
 bytes_before es e rest =
-    ap (λ q. q ++ rest) (bytes_push es e) ∙ append_assoc (entries_bytes es) (entry_bytes e ++ []) rest
+    ap (λ q. q ++ rest) (flat_map-append entry_bytes es (e ∷ [])) ∙ append_assoc (entries_bytes es) (entry_bytes e ++ []) rest
     ∙ ap (λ q. entries_bytes es ++ q) (append_assoc (entry_bytes e) [] rest)
 
 records_push : (es : List Entry) (e : Entry) → records_of (es ++ e ∷ []) ≡ records_of es ++ records_of (e ∷ [])
@@ -38,14 +34,11 @@ keeps_push : (es : List Entry) (e : Entry) → AllByRecursion Keeps es → Keeps
 keeps_push [] e h k = (k, tt)
 keeps_push (x ∷ es) e h k = (h.0, keeps_push es e h.1 k)
 
-pub passed_none : (bs : List ℕ) → Passed bs bs 2 0
-passed_none bs = record { entries = []; sound = record { keep = tt; few = omega arith }; written = refl; place = refl; many = refl }
-
 passed_entry : (bs rest rest' : List ℕ) (offset offset' n n' : ℕ) (e : Entry) → Passed bs rest offset n → rest ≡ entry_bytes e ++ rest' → offset' + length rest' ≡ offset + length rest → Keeps e → n' ≡ n + length (records_of (e ∷ [])) → n' ≤ 256 → Passed bs rest' offset' n'
 passed_entry bs rest rest' offset offset' n n' e p w further k m few =
     let es = p.entries in
     let many = ap length (records_push es e) ∙ length-append (records_of es) (records_of (e ∷ [])) in
-    let long = ap length (bytes_push es e) ∙ length-append (entries_bytes es) (entry_bytes e ++ []) in
+    let long = ap length (flat_map-append entry_bytes es (e ∷ [])) ∙ length-append (entries_bytes es) (entry_bytes e ++ []) in
     let last = length-append (entry_bytes e) [] in
     let size = ap length w ∙ length-append (entry_bytes e) rest' in
     record {
@@ -111,17 +104,11 @@ module _ (bs rest : List ℕ) (offset n : ℕ) (p : Passed bs rest offset n) whe
 
 -- the opening
 
-pub unopened_none : (bs : List ℕ) → length bs < 1 → Unopened bs (CutShort 0)
-unopened_none bs h = Unopened.no_byte (nil_from_length bs (omega arith)) refl
-
 module _ (bs : List ℕ) (some : 1 ≤ length bs) where
   pub unopened_byte : (get_or bs 0 0 ≡ 0x10 → ⊥) → Unopened bs (OutOfOrder 0)
   unopened_byte h = Unopened.no_begin (get_or bs 0 0) (behind bs) (front 0 bs some (get_or bs 0 0) refl) h refl
 
-  pub unopened_short : get_or bs 0 0 ≡ 0x10 → length (behind bs) < 1 → Unopened bs (CutShort 1)
-  unopened_short e h = Unopened.no_edition (front 0 bs some 0x10 e ∙ ap (λ q. 0x10 ∷ q) (nil_from_length (behind bs) (omega arith))) refl
-
-  pub opened : (e : ℕ) → get_or bs 0 0 ≡ 0x10 → 1 ≤ length (behind bs) → get_or (behind bs) 0 0 ≡ e → bs ≡ 0x10 ∷ e ∷ behind (behind bs)
+  opened : (e : ℕ) → get_or bs 0 0 ≡ 0x10 → 1 ≤ length (behind bs) → get_or (behind bs) 0 0 ≡ e → bs ≡ 0x10 ∷ e ∷ behind (behind bs)
   opened e p more q = front 0 bs some 0x10 p ∙ ap (λ t. 0x10 ∷ t) (front 0 (behind bs) more e q)
 
   pub unopened_edition : get_or bs 0 0 ≡ 0x10 → 1 ≤ length (behind bs) → (get_or (behind bs) 0 0 ≡ 1 → ⊥) → Unopened bs (OutOfRange 1)
@@ -138,7 +125,7 @@ accepted_answer bs a =
     let e = accepted_verdict bs a in
     record {
       value = sym e;
-      rules = record { accepted = λ _. a; accepts = λ _. refl; refused = λ x h. err_ok x (sym h); refuses = λ x h. sym e ∙ refused_verdict bs x h };
+      rules = record { accepted = λ _. a; accepts = λ _. refl; refused = λ x h. absurd (cc); refuses = λ x h. sym e ∙ refused_verdict bs x h };
     }
 
 pub refused_answer : (bs : List ℕ) (x : Refusal) → Refused bs x → Answer bs (Err x)
@@ -147,7 +134,7 @@ refused_answer bs x r =
     record {
       value = sym e;
       rules = record {
-        accepted = λ h. err_ok x h;
+        accepted = λ h. absurd (cc);
         accepts = λ a. sym e ∙ accepted_verdict bs a;
         refused = λ y h. let q : x ≡ y = cc in same y q;
         refuses = λ y h. sym e ∙ refused_verdict bs y h;

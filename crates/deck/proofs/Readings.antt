@@ -2,17 +2,15 @@
 use Rattle.std.proofs.Common.{◌≡◌, ℕ, ◌+◌, ◌<◌, ◌≤◌, Bool, true, false, cond, eqb, ltb, leb, List, [], ◌∷◌, ◌++◌, map, length, take, drop, Some, Ok, Err, sym, refl, ap, ◌∙◌, arith}
 use Rattle.std.specs.List.{AllByRecursion}
 use Rattle.std.proofs.lemmas.List.{length-append, drop-drop, drop_at, take_at, drop_all}
-use Rattle.std.proofs.lemmas.Bool.{ne_eqb, lt-leb}
+use Rattle.std.proofs.lemmas.Bool.{ne_eqb, lt-leb, cond-true, cond-false}
 use Rattle.refusal.specs.declared.refusal.Refusal.{Refusal}
 use Rattle.refusal.specs.declared.refusal.Refusal.TheVariants.{TooLong, CutShort, OutOfOrder}
-use Rattle.record.specs.declared.records.Record.{Record}
 use Rattle.record.specs.Records.{fits, stated}
 use Rattle.table.specs.Tables.{Verdict}
 use Rattle.deck.specs.declared.commands.Command.{Command}
 use Rattle.deck.specs.declared.commands.Command.TheVariants.{Transistor, Remark, End}
 use Rattle.deck.specs.Commands.{Gives}
 use Rattle.deck.specs.Format.{Entry, transistor, remark, operands, records_of}
-use Rattle.table.specs.Lawfuls.{err_ok}
 use Rattle.deck.specs.Lawfuls.{accepted_entries}
 use Rattle.deck.specs.Reading.{First, Reads, told}
 use Rattle.deck.specs.Rules.{Unreadable}
@@ -58,7 +56,7 @@ unfolding entries_in
 end_none bs offset c behind offset' g e = let h = rw e at g.says in ap (entries_in 0) h ∙ either_none (leb 16 (length behind))
 
 cut_none : (rest : List ℕ) (xs : List Entry) → length rest < 16 → cond (leb 16 (length rest)) xs [] ≡ []
-cut_none rest xs h = ap (λ b. cond b xs []) (lt-leb 16 (length rest) h)
+cut_none rest xs h = cond-false (leb 16 (length rest)) xs [] (lt-leb 16 (length rest) h)
 
 pub unreadable_none : (bs : List ℕ) (offset : ℕ) (x : Refusal) → Unreadable offset bs x → entries_in 0 bs ≡ []
 unfolding entries_in
@@ -72,12 +70,12 @@ unreadable_none bs offset x (Unreadable.cut_remark rest p h q) = ap (entries_in 
 -- where the entries of an accepted deck stand
 
 one_byte : {P : Type 0} (x : Bool) → ◌≡◌ {A = Verdict} (cond x (Err (CutShort 1)) (Err (OutOfOrder 0))) (Ok tt) → P
-one_byte true h = err_ok _ h
-one_byte false h = err_ok _ h
+one_byte true h = absurd (cc)
+one_byte false h = absurd (cc)
 
 opened_entries : (bs : List ℕ) → opening_verdict bs ≡ Ok tt → (2 ≤ length bs) × (entries_in 0 (drop 2 bs) ≡ entries_in 2 bs)
 unfolding entries_in
-opened_entries [] h = err_ok _ h
+opened_entries [] h = absurd (cc)
 opened_entries (b ∷ []) h = one_byte (eqb b 0x10) h
 opened_entries (b ∷ e ∷ bs) h = (omega arith, refl)
 
@@ -86,14 +84,14 @@ unfolding deck_verdict
 deck_entries_lem bs h = go (ltb 16384 (length bs)) h
   where
     go : (x : Bool) → cond x (Err (TooLong (length bs))) (opening_verdict bs) ≡ Ok tt → (2 ≤ length bs) × (entries_in 0 (drop 2 bs) ≡ entries_in 2 bs)
-    go true h = err_ok _ h
+    go true h = absurd (cc)
     go false h = opened_entries bs h
 
 -- what the reader tells of an accepted deck is what its records state
 
 told_fit : (es : List Entry) → AllByRecursion (λ r. fits r ≡ true) (records_of es) → told es ≡ map stated (records_of es)
 told_fit [] h = refl
-told_fit (transistor r ∷ es) h = ap (λ b. cond b (stated r ∷ told es) (told es)) h.0 ∙ ap (λ ms. stated r ∷ ms) (told_fit es h.1)
+told_fit (transistor r ∷ es) h = cond-true (fits r) _ _ h.0 ∙ ap (λ ms. stated r ∷ ms) (told_fit es h.1)
 told_fit (remark bs ∷ es) h = told_fit es h
 
 pub told_accepted : (v : Verdict) (bs rest : List ℕ) → v ≡ deck_verdict bs → entries_in 0 rest ≡ deck_entries (deck_verdict bs) bs → told (entries_in 0 rest) ≡ deck_tells v bs
@@ -102,10 +100,6 @@ told_accepted v bs rest e w = ap told w ∙ go (deck_verdict bs) refl ∙ ap (λ
     go : (u : Verdict) → deck_verdict bs ≡ u → told (deck_entries u bs) ≡ deck_tells u bs
     go (Ok t) e = told_fit (entries_in 2 bs) (accepted_entries bs e).fit
     go (Err x) e = refl
-
--- a step of a pass over a deck
-pub told_transistor : (es rest : List Entry) (r : Record) (b : Bool) → es ≡ transistor r ∷ rest → fits r ≡ b → told es ≡ cond b (stated r ∷ told rest) (told rest)
-told_transistor es rest r b e f = ap told e ∙ ap (λ t. cond t (stated r ∷ told rest) (told rest)) f
 
 pub first_length : (c : Command) (es rest : List Entry) → First c es rest → length es ≡ length rest + 1
 first_length (Transistor r) es rest e = omega (arith, ap length e)

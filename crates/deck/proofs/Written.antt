@@ -1,10 +1,11 @@
 -- The check and the reading of a deck, over its written form.
-use Rattle.std.proofs.Common.{◌≡◌, ℕ, zero, suc, ◌+◌, ◌*◌, ◌/◌, ◌%◌, ◌<◌, ◌≤◌, Bool, true, false, cond, eqb, leb, List, [], ◌∷◌, ◌++◌, length, take, Ok, Err, sym, refl, ap, ◌∙◌, append_assoc, append-nil, arith}
+use Rattle.std.proofs.Common.{◌≡◌, ℕ, zero, suc, ◌+◌, ◌<◌, ◌≤◌, Bool, true, false, cond, eqb, leb, ltb, List, [], ◌∷◌, ◌++◌, length, take, Ok, Err, sym, refl, ap, ◌∙◌, append_assoc, append-nil, arith}
 use Rattle.std.specs.List.{AllByRecursion}
 use Rattle.std.proofs.lemmas.List.{length-append, take_at}
-use Rattle.std.proofs.lemmas.Bool.{lt-ltb, le-ltb, le-leb, lt-leb, ne_eqb}
+use Rattle.std.proofs.lemmas.Bool.{lt-ltb, le-ltb, le-leb, lt-leb, ne_eqb, cond-true, cond-false}
+use Rattle.std.proofs.lemmas.Nat.{div-add-mod'}
 use Rattle.refusal.specs.declared.refusal.Refusal.{Refusal}
-use Rattle.refusal.specs.declared.refusal.Refusal.TheVariants.{TooLong, CutShort, OutOfRange, TooManyTransistors}
+use Rattle.refusal.specs.declared.refusal.Refusal.TheVariants.{CutShort, OutOfRange, TooManyTransistors}
 use Rattle.record.specs.declared.records.Record.{Record}
 use Rattle.record.specs.Records.{fits, first_unfit}
 use Rattle.table.specs.Tables.{Verdict}
@@ -12,13 +13,9 @@ use Rattle.deck.specs.Format.{Entry, transistor, remark, operands, operand_offse
 use Rattle.deck.specs.Rules.{Sound, Accepted, Unreadable, Stops, Unopened, Refused}
 use Rattle.deck.specs.Verdicts.{record_at, at_end, transistor_verdict, commands_verdict, opening_verdict, deck_verdict, entry_then, entries_in}
 
--- a number is what its two bytes say
-word_back : (n : ℕ) → n / 256 * 256 + n % 256 ≡ n
-word_back n = omega arith
-
 -- a record is what its operands say
 pub record_back : (r : Record) (bs : List ℕ) → record_at (operands r ++ bs) ≡ r
-record_back r bs = simp word_back
+record_back r bs = simp div-add-mod'
 
 -- operand bytes are passed over
 pass_verdict : (xs ys : List ℕ) (n k offset : ℕ) → length xs ≡ k → commands_verdict n k offset (xs ++ ys) ≡ commands_verdict n 0 (offset + k) ys
@@ -45,7 +42,7 @@ module _ (n offset : ℕ) where
       let size : length (operands r) ≡ 16 = refl in
       let long : 16 ≤ length bs = omega (arith, length-append (operands r) rest) in
       let next = pass_verdict (operands r) rest (n + 1) 16 (offset + 1) refl ∙ ap (λ a. commands_verdict (n + 1) 0 a rest) (omega arith) in
-      ap (λ l. cond l (transistor_verdict n offset (record_at bs) (commands_verdict (n + 1) 16 (offset + 1) bs)) (Err (CutShort (offset + 1 + length bs)))) (le-leb 16 (length bs) long)
+      cond-true (leb 16 (length bs)) _ _ (le-leb 16 (length bs) long)
       ∙ ap (λ q. transistor_verdict n offset q (commands_verdict (n + 1) 16 (offset + 1) bs)) (record_back r rest)
       ∙ ap (λ v. transistor_verdict n offset r v) next
 
@@ -53,7 +50,7 @@ module _ (n offset : ℕ) where
   unfolding commands_verdict
   remark_verdict bs rest size =
       let long : 16 ≤ length (bs ++ rest) = omega (arith, length-append bs rest) in
-      ap (λ l. cond l (commands_verdict n 16 (offset + 1) (bs ++ rest)) (Err (CutShort (offset + 1 + length (bs ++ rest))))) (le-leb 16 (length (bs ++ rest)) long)
+      cond-true (leb 16 (length (bs ++ rest))) _ _ (le-leb 16 (length (bs ++ rest)) long)
       ∙ pass_verdict bs rest n 16 (offset + 1) size ∙ ap (λ a. commands_verdict n 0 a rest) (omega arith)
 
   pub end_verdict : (rest : List ℕ) → commands_verdict n 0 offset (0x7F ∷ rest) ≡ at_end (offset + 1) rest
@@ -62,7 +59,7 @@ module _ (n offset : ℕ) where
 
   cut_short : (bs rest : List ℕ) (x : Refusal) (b : ℕ) (v : Verdict) → bs ≡ b ∷ rest → length rest < 16 → x ≡ CutShort (offset + length bs) → cond (leb 16 (length rest)) v (Err (CutShort (offset + 1 + length rest))) ≡ Err x
   cut_short bs rest x b v p h q =
-      ap (λ l. cond l v (Err (CutShort (offset + 1 + length rest)))) (lt-leb 16 (length rest) h)
+      cond-false (leb 16 (length rest)) _ _ (lt-leb 16 (length rest) h)
       ∙ ap (λ a. Err (CutShort a)) (omega (arith, ap length p)) ∙ ap Err (sym q)
 
   pub unreadable_verdict : (bs : List ℕ) (x : Refusal) → Unreadable offset bs x → commands_verdict n 0 offset bs ≡ Err x
@@ -77,11 +74,11 @@ module _ (n offset : ℕ) where
 
   -- a transistor that is refused, or accepted
   pub many_verdict : (r : Record) (v : Verdict) → 256 ≤ n → transistor_verdict n offset r v ≡ Err (TooManyTransistors offset)
-  many_verdict r v h = ap (λ b. cond b (cond (fits r) v (Err (OutOfRange (offset + 1 + operand_offset (first_unfit r))))) (Err (TooManyTransistors offset))) (le-ltb n 256 h)
+  many_verdict r v h = cond-false (ltb n 256) _ _ (le-ltb n 256 h)
 
   pub fit_verdict : (r : Record) (v : Verdict) (f : Bool) → n < 256 → fits r ≡ f → transistor_verdict n offset r v ≡ cond f v (Err (OutOfRange (offset + 1 + operand_offset (first_unfit r))))
   fit_verdict r v f h e =
-      ap (λ b. cond b (cond (fits r) v (Err (OutOfRange (offset + 1 + operand_offset (first_unfit r))))) (Err (TooManyTransistors offset))) (lt-ltb n 256 h)
+      cond-true (ltb n 256) _ _ (lt-ltb n 256 h)
       ∙ ap (λ b. cond b v (Err (OutOfRange (offset + 1 + operand_offset (first_unfit r))))) e
 
   pub stops_verdict : (bs : List ℕ) (x : Refusal) → Stops n offset bs x → commands_verdict n 0 offset bs ≡ Err x
@@ -110,7 +107,7 @@ sound_verdict (remark bs ∷ es) n offset rest h few =
     ∙ ap (λ a. commands_verdict (n + length (records_of es)) 0 a rest) (omega arith)
 
 entry_back : (b : ℕ) (bs : List ℕ) (next : List Entry) → 16 ≤ length bs → entry_then b bs next ≡ cond (eqb b 0x20) (transistor (record_at bs) ∷ next) (cond (eqb b 0x30) (remark (take 16 bs) ∷ next) [])
-entry_back b bs next h = ap (λ l. cond l (cond (eqb b 0x20) (transistor (record_at bs) ∷ next) (cond (eqb b 0x30) (remark (take 16 bs) ∷ next) [])) []) (le-leb 16 (length bs) h)
+entry_back b bs next h = cond-true (leb 16 (length bs)) _ _ (le-leb 16 (length bs) h)
 
 -- and read back
 pub transistor_entries : (r : Record) (rest : List ℕ) → entries_in 0 (0x20 ∷ (operands r ++ rest)) ≡ transistor r ∷ entries_in 0 rest
@@ -141,7 +138,7 @@ sound_entries (remark bs ∷ es) rest h =
 
 short_verdict : (bs : List ℕ) → length bs ≤ 16384 → deck_verdict bs ≡ opening_verdict bs
 unfolding deck_verdict
-short_verdict bs h = ap (λ b. cond b (Err (TooLong (length bs))) (opening_verdict bs)) (le-ltb 16384 (length bs) h)
+short_verdict bs h = cond-false (ltb 16384 (length bs)) _ _ (le-ltb 16384 (length bs) h)
 
 pub opened_verdict : (bs rest : List ℕ) (es : List Entry) → length bs ≤ 16384 → Sound es → bs ≡ 0x10 ∷ 1 ∷ (entries_bytes es ++ rest) → deck_verdict bs ≡ commands_verdict (length (records_of es)) 0 (2 + length (entries_bytes es)) rest
 opened_verdict bs rest es short s p =
@@ -161,14 +158,11 @@ unopened_verdict bs x (Unopened.other_edition e rest p h q) = ap opening_verdict
 
 pub refused_verdict : (bs : List ℕ) (x : Refusal) → Refused bs x → deck_verdict bs ≡ Err x
 unfolding deck_verdict
-refused_verdict bs x (Refused.too_long h q) = ap (λ b. cond b (Err (TooLong (length bs))) (opening_verdict bs)) (lt-ltb 16384 (length bs) h) ∙ ap Err (sym q)
+refused_verdict bs x (Refused.too_long h q) = cond-true (ltb 16384 (length bs)) _ _ (lt-ltb 16384 (length bs) h) ∙ ap Err (sym q)
 refused_verdict bs x (Refused.unopened h u) = short_verdict bs h ∙ unopened_verdict bs x u
 refused_verdict bs x (Refused.stopped es rest h s p u) = opened_verdict bs rest es h s p ∙ stops_verdict (length (records_of es)) (2 + length (entries_bytes es)) rest x u
 
 -- the entries of the written form are read
 pub deck_back : (es : List Entry) → AllByRecursion Keeps es → entries_in 2 (deck_bytes es) ≡ es
 unfolding entries_in
-deck_back es h = sound_entries es (0x7F ∷ []) h ∙ end_none (entries_in 0 (0x7F ∷ [])) refl
-  where
-    end_none : (q : List Entry) → q ≡ [] → es ++ q ≡ es
-    end_none q e = ap (λ t. es ++ t) e ∙ append-nil es
+deck_back es h = sound_entries es (0x7F ∷ []) h ∙ append-nil es

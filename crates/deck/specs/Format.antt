@@ -1,5 +1,6 @@
 -- The written form of a deck.
 use Rattle.std.specs.Prelude.{◌≡◌, ℕ, ◌/◌, ◌%◌, true, List, [], ◌∷◌, ◌++◌, length}
+use Rattle.std.specs.List.{flat_map}
 use Rattle.record.specs.declared.field.Field.{Field}
 use Rattle.record.specs.declared.field.Field.TheVariants.{Kind, Width, Side}
 use Rattle.record.specs.declared.records.Record.{Record}
@@ -29,8 +30,7 @@ entry_bytes (transistor r) = 0x20 ∷ operands r
 entry_bytes (remark bs) = 0x30 ∷ bs
 
 abbrev pub entries_bytes : List Entry → List ℕ
-entries_bytes [] = []
-entries_bytes (e ∷ es) = entry_bytes e ++ entries_bytes es
+entries_bytes = flat_map entry_bytes
 
 -- begin with edition 1, the entries, end
 abbrev pub deck_bytes : List Entry → List ℕ

@@ -9,7 +9,7 @@ use Rattle.net.specs.Mods.{Lawful}
 use Rattle.record.specs.declared.records.Record.{Record}
 use Rattle.record.specs.Records.{fits, first_unfit, stated}
 use Rattle.table.specs.Tables.{Verdict}
-use Rattle.table.specs.Lawfuls.{err_ok, fits_all_range, few_lawful}
+use Rattle.table.specs.Lawfuls.{fits_all_range, few_lawful}
 use Rattle.deck.specs.Format.{Entry, transistor, remark, operand_offset, records_of}
 use Rattle.deck.specs.Verdicts.{record_at, at_end, transistor_verdict, command_verdict, commands_verdict, opening_verdict, deck_verdict, entry_then, entries_in, deck_tells}
 
@@ -36,11 +36,11 @@ accepted_entry n offset b bs A B es h on_t on_r e = go (b == 0x20) (nat_le 16 (l
     go true true m z g true true p q e =
         let f = on_t (ltb-true n 256 p) e in
         record { fit = (q, f.fit); few = omega (arith, f.few) }
-    go true true m z g true false p q e = err_ok _ e
-    go true true m z g false f p q e = err_ok _ e
-    go true false m z g s f p q e = err_ok _ e
+    go true true m z g true false p q e = absurd (cc)
+    go true true m z g false f p q e = absurd (cc)
+    go true false m z g s f p q e = absurd (cc)
     go false true true z g s f p q e = let f = on_r e in record { fit = f.fit; few = f.few }
-    go false false true z g s f p q e = err_ok _ e
+    go false false true z g s f p q e = absurd (cc)
     go false true false z g s f p q e = none_fine n h
     go false false false z g s f p q e = none_fine n h
 
@@ -62,8 +62,8 @@ opened_fine (b ∷ e ∷ bs) h = go (b == 0x10) (e == 1) h
   where
     go : (x y : Bool) → cond x (cond y (commands_verdict 0 0 2 bs) (Err (OutOfRange 1))) (Err (OutOfOrder 0)) ≡ Ok tt → Fine 0 (entries_in 0 bs)
     go true true h = accepted_fine 0 0 2 bs (omega arith) h
-    go true false h = err_ok _ h
-    go false y h = err_ok _ h
+    go true false h = absurd (cc)
+    go false y h = absurd (cc)
 
 -- the transistors of an accepted deck are in range, and at most 256
 pub accepted_entries : (bs : List ℕ) → deck_verdict bs ≡ Ok tt → Fine 0 (entries_in 2 bs)
@@ -71,7 +71,7 @@ unfolding deck_verdict
 accepted_entries bs h = go (nat_lt 16384 (length bs)) h
   where
     go : (x : Bool) → cond x (Err (TooLong (length bs))) (opening_verdict bs) ≡ Ok tt → Fine 0 (entries_in 2 bs)
-    go true h = err_ok _ h
+    go true h = absurd (cc)
     go false h = opened_fine bs h
 
 pub deck_lawful : (v : Verdict) (bs : List ℕ) → v ≡ deck_verdict bs → Lawful (deck_tells v bs)

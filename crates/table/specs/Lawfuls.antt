@@ -5,7 +5,6 @@ use Rattle.std.specs.List.{AllByRecursion}
 use Rattle.std.proofs.lemmas.List.{length-map}
 use Rattle.std.proofs.ByRecursion.{All-weaker, sum_by_le}
 use Rattle.std.proofs.lemmas.Bool.{and_parts, leb-true, ltb-true, ltb-false, eq-eqb}
-use Rattle.refusal.specs.declared.refusal.Refusal.{Refusal}
 use Rattle.refusal.specs.declared.refusal.Refusal.TheVariants.{OutOfRange, TooManyTransistors}
 use Rattle.net.specs.Mods.{Mod, InRange, Lawful}
 use Rattle.net.specs.declared.modules.Side.TheVariants.{Left, Right}
@@ -47,17 +46,13 @@ pub fits_all_range : (rs : List Record) → AllByRecursion (λ r. fits r ≡ tru
 fits_all_range [] h = tt
 fits_all_range (r ∷ rs) h = (fits_range r h.0, fits_all_range rs h.1)
 
--- a refusal is no acceptance
-pub err_ok : {P : Type 0} (x : Refusal) → ◌≡◌ {A = Verdict} (Err x) (Ok tt) → P
-err_ok x h = let z : ◌≡◌ {A = ℕ} 0 1 = cc in absurd (omega arith)
-
 none_unfit : (i : ℕ) (rs : List Record) → unfit_from i rs ≡ Ok tt → AllByRecursion (λ r. fits r ≡ true) rs
 none_unfit i [] h = tt
 none_unfit i (r ∷ rs) h = go (fits r) refl (none_unfit (i + 1) rs) h
   where
     go : (b : Bool) → fits r ≡ b → (unfit_from (i + 1) rs ≡ Ok tt → AllByRecursion (λ q. fits q ≡ true) rs) → ◌≡◌ {A = Verdict} (cond b (unfit_from (i + 1) rs) (Err (OutOfRange i))) (Ok tt) → AllByRecursion (λ q. fits q ≡ true) (r ∷ rs)
     go true e f h = (e, f h)
-    go false e f h = err_ok _ h
+    go false e f h = absurd (cc)
 
 -- what an accepted table gives of its records
 pub record Checked (rs : List Record) : Type 0 where
@@ -68,7 +63,7 @@ pub table_checked : (rs : List Record) → table_verdict rs ≡ Ok tt → Checke
 table_checked rs h = go (nat_lt 256 (length rs)) refl h
   where
     go : (b : Bool) → nat_lt 256 (length rs) ≡ b → ◌≡◌ {A = Verdict} (cond b (Err (TooManyTransistors 256)) (unfit_from 0 rs)) (Ok tt) → Checked rs
-    go true e h = err_ok _ h
+    go true e h = absurd (cc)
     go false e h = record { few = ltb-false 256 (length rs) e; fit = none_unfit 0 rs h }
 
 pub table_lawful : (v : Verdict) (rs : List Record) → v ≡ table_verdict rs → Lawful (told_by v rs)

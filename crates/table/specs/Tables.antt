@@ -23,8 +23,3 @@ table_verdict rs = cond (nat_lt 256 (length rs)) (Err (TooManyTransistors 256)) 
 abbrev pub told_by : Verdict → List Record → List Mod
 told_by (Ok u) rs = map stated rs
 told_by (Err x) rs = []
-
--- what a record in range states, if there is one
-abbrev pub stated_by : Option Record → Option Mod
-stated_by None = None
-stated_by (Some r) = cond (fits r) (Some (stated r)) None

@@ -8,8 +8,8 @@ use Rattle.refusal.specs.Written.{over, over_at, answer_of, buffer_after}
 use Rattle.refusal.proofs.Writing.{Begun, begun_more, begun_byte, over_more, over_lent, length_over, answer_fits, after_fits, answer_short, after_short}
 use Rattle.record.specs.declared.records.Record.{Record}
 use Rattle.table.specs.Tables.{table_verdict}
-use Rattle.deck.specs.Format.{transistor, operands, entries_bytes}
-use Rattle.deck.proofs.Judges.{bytes_push}
+use Rattle.deck.specs.Format.{transistor, operands, entry_bytes, entries_bytes}
+use Rattle.std.proofs.lemmas.Grind.{flat_map-append}
 use Rattle.writer.specs.Writing.{table_deck, checked_answer, checked_buffer, writer_answer, writer_buffer}
 use Rattle.writer.proofs.Trips.{entries_length, deck_length}
 
@@ -20,7 +20,7 @@ text rs = entries_bytes (map transistor rs)
 text_more : (rs : List Record) (i : ℕ) (d : Record) → i < length rs → text (take (i + 1) rs) ≡ text (take i rs) ++ (0x20 ∷ operands (get_or rs i d))
 text_more rs i d h =
     ap text (take_more rs i d h) ∙ ap entries_bytes (map_push transistor (take i rs) (get_or rs i d))
-    ∙ bytes_push (map transistor (take i rs)) (transistor (get_or rs i d))
+    ∙ flat_map-append entry_bytes (map transistor (take i rs)) (transistor (get_or rs i d) ∷ [])
 
 -- one transistor more
 pub put_step : (rs : List Record) (i : ℕ) (d : Record) (buf entry part : List ℕ) → i < length rs
