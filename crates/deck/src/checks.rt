@@ -6,6 +6,7 @@ ghost use Rattle.deck.specs.Rules.{Unopened, Judged};
 ghost use Rattle.deck.specs.Passes.{Ended, Stopped};
 ghost use Rattle.deck.specs.Verdicts.{deck_verdict, at_end, transistor_verdict};
 
+use crate::codes::{BEGIN, EDITION};
 use crate::commands::Command;
 use crate::reader::Commands;
 use net::Module;
@@ -37,13 +38,13 @@ fn read_begin(bytes: &[u8]) -> Result<Commands<'_>, Refusal>
     let [code, operands @ ..] = bytes else {
         return Err(Refusal::CutShort { length: 0 });
     };
-    if *code != 0x10 {
+    if *code != BEGIN {
         return Err(Refusal::OutOfOrder { offset: 0 });
     }
     let [edition, commands @ ..] = operands else {
         return Err(Refusal::CutShort { length: 1 });
     };
-    if *edition != 1 {
+    if *edition != EDITION {
         return Err(Refusal::OutOfRange { place: 1 });
     }
     Ok(Commands {

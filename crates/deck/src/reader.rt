@@ -5,6 +5,7 @@ ghost use Rattle.refusal.specs.declared.refusal.Refusal.TheVariants.{CutShort};
 ghost use Rattle.deck.specs.Rules.{Unreadable};
 ghost use Rattle.deck.specs.Commands.{Gives};
 
+use crate::codes::{BEGIN, END, REMARK, TRANSISTOR};
 use crate::commands::{Command, record_of};
 use refusal::Refusal;
 
@@ -30,12 +31,12 @@ impl<'a> Commands<'a> {
             offset: offset + 1,
         };
         match *code {
-            0x10 => Err(Refusal::OutOfOrder { offset }),
-            0x20 => {
+            BEGIN => Err(Refusal::OutOfOrder { offset }),
+            TRANSISTOR => {
                 let (bytes, rest) = behind.take_operands()?;
                 Ok((Command::Transistor(record_of(bytes)), rest))
             }
-            0x30 => {
+            REMARK => {
                 let (bytes, rest) = behind.take_operands()?;
                 let remark = Command::Remark {
                     offset: behind.offset,
@@ -43,7 +44,7 @@ impl<'a> Commands<'a> {
                 };
                 Ok((remark, rest))
             }
-            0x7F => Ok((Command::End, behind)),
+            END => Ok((Command::End, behind)),
             _ => Err(Refusal::UnknownCommand { offset }),
         }
     }

@@ -1,5 +1,5 @@
 -- What the check of a table refuses, and what a table tells.
-use Rattle.std.specs.Prelude.{ℕ, ◌+◌, cond, List, [], ◌∷◌, map, length, Some, None, Ok, Err, Option, Result, nat_lt}
+use Rattle.std.specs.Prelude.{ℕ, ◌+◌, cond, List, [], ◌∷◌, map, length, Ok, Err, Result, nat_lt}
 use Rattle.refusal.specs.declared.refusal.Refusal.{Refusal}
 use Rattle.refusal.specs.declared.refusal.Refusal.TheVariants.{OutOfRange, TooManyTransistors}
 use Rattle.net.specs.Mods.{Mod}

@@ -8,9 +8,13 @@ ghost use Rattle.deck.specs.Format.{transistor, operands, entries_bytes};
 ghost use Rattle.writer.specs.Writing.{table_deck, writer_answer, writer_buffer};
 ghost use Rattle.writer.specs.RoundTrips.{ReadBack, WrittenAgain};
 
+use deck::{BEGIN, EDITION, END, TRANSISTOR};
 use record::Record;
 use refusal::Refusal;
 use table::Table;
+
+/// A transistor takes so many bytes of a deck.
+const TRANSISTOR_BYTES: usize = 17;
 
 /// Writes the deck of a checked table at the front of the buffer, and answers its length.
 /// A table that its check refuses, and a buffer that is too short, leave the buffer as it was.
@@ -22,7 +26,7 @@ pub fn write_deck(table: &Table<'_>, buf: &mut [u8]) -> Result<usize, Refusal>
 {
     table.check()?;
     let records = table.records();
-    let needed = 3 + 17 * records.len();
+    let needed = 3 + TRANSISTOR_BYTES * records.len();
     if buf.len() < needed {
         return Err(Refusal::TooShort { needed });
     }
@@ -35,10 +39,10 @@ fn put_deck(records: &[Record], buf: &mut [u8])
     requires { length (table_deck records.now) ≤ length buf.old }
     ensures { buf.new ≡ over (table_deck records.now) buf.old }
 {
-    buf[0] = 0x10;
-    buf[1] = 1;
+    buf[0] = BEGIN;
+    buf[1] = EDITION;
     put_transistors(records, &mut buf[2..]);
-    buf[2 + 17 * records.len()] = 0x7F;
+    buf[2 + TRANSISTOR_BYTES * records.len()] = END;
 }
 
 /// Writes a transistor for each record at the front.
@@ -47,13 +51,13 @@ fn put_transistors(records: &[Record], buf: &mut [u8])
     ensures { buf.new ≡ over (entries_bytes (map transistor records.now)) buf.old }
 {
     for (i, record) in records.iter().enumerate() {
-        let at = 17 * i;
-        buf[at..at + 17].copy_from_slice(&transistor_bytes(record));
+        let at = TRANSISTOR_BYTES * i;
+        buf[at..at + TRANSISTOR_BYTES].copy_from_slice(&transistor_bytes(record));
     }
 }
 
 /// The command of one transistor.
-fn transistor_bytes(t: &Record) -> [u8; 17]
+fn transistor_bytes(t: &Record) -> [u8; TRANSISTOR_BYTES]
     ensures { result ≡ 0x20 ∷ operands t.now }
 {
     let Record {
@@ -75,7 +79,7 @@ fn transistor_bytes(t: &Record) -> [u8; 17]
     let [tag_high, tag_low] = tag.to_be_bytes();
     let [pair_high, pair_low] = pair.to_be_bytes();
     [
-        0x20,
+        TRANSISTOR,
         kind,
         body_high,
         body_low,
