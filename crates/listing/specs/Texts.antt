@@ -1,33 +1,13 @@
 -- The text of a module's line, and of its parts.
-use Rattle.std.specs.Prelude.{ℕ, cond, List, ◌++◌, codes, decimal, nat_lt}
+use Rattle.std.specs.Prelude.{ℕ, List, ◌++◌, codes, decimal, Option, None, Some}
 use Rattle.std.specs.NonZero.{non_zero_u16_get}
-use Rattle.net.specs.declared.modules.Kind.{Kind}
-use Rattle.net.specs.declared.modules.Kind.TheVariants.{NChannel, PChannel}
-use Rattle.net.specs.declared.modules.Side.{Side}
-use Rattle.net.specs.declared.modules.Side.TheVariants.{Left, Right}
 use Rattle.net.specs.declared.modules.Pairing.{Pairing}
-use Rattle.net.specs.declared.modules.Pairing.TheVariants.{Unpaired, Paired}
 use Rattle.net.specs.declared.modules.Module.{Module}
+use Rattle.net.specs.Texts.{kind_text, side_text}
 
--- the net that a number names
-abbrev pub number_text : ℕ → List ℕ
-number_text n = decimal n
-
--- the net n of instance i: a rail by its number alone
-abbrev pub instance_text : ℕ → ℕ → List ℕ
-instance_text i n = cond (nat_lt n 16) (decimal n) (decimal i ++ (codes "." ++ decimal n))
-
-abbrev pub kind_text : Kind → List ℕ
-kind_text NChannel = codes "n-channel"
-kind_text PChannel = codes "p-channel"
-
-abbrev pub side_text : Side → List ℕ
-side_text Left = codes "left"
-side_text Right = codes "right"
-
-abbrev pub pairing_text : Pairing → List ℕ
-pairing_text Unpaired = codes "unpaired"
-pairing_text (Paired n s) = codes "pair " ++ (decimal (non_zero_u16_get n) ++ (codes " " ++ side_text s))
+abbrev pub pairing_text : Option Pairing → List ℕ
+pairing_text None = codes "unpaired"
+pairing_text (Some p) = codes "pair " ++ (decimal (non_zero_u16_get p.number) ++ (codes " " ++ side_text p.side))
 
 -- the nets of a module, by the name that each key has
 abbrev pub nets_text : {K : Type 0} → (K → List ℕ) → Module K → List ℕ

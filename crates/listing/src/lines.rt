@@ -1,10 +1,10 @@
-//! The line of a module.
+//! The lines of modules.
 
 ghost use Rattle.std.specs.Prelude.{Some};
-ghost use Rattle.listing.specs.Texts.{nets_text, line_text};
+ghost use Rattle.listing.specs.Texts.{line_text};
 
-use crate::keys::{NamedKey, NetName};
-use crate::words::{PairWords, kind_name};
+use crate::keys::NamedKey;
+use crate::words::PairWords;
 use net::Module;
 use std::fmt;
 
@@ -20,32 +20,22 @@ impl<K: NamedKey> fmt::Display for ModuleLine<K> {
     ghost output = { λ l. Some (line_text K.NamedKey.name l.position l.module) };
 
     fn fmt<W: fmt::Write>(&self, f: &mut fmt::Formatter<W>) -> fmt::Result {
-        let position = self.position;
-        let kind = kind_name(self.module.kind);
-        let nets = NetWords(self.module);
-        let width = self.module.width.steps();
-        let tag = self.module.tag;
-        let pair = PairWords(self.module.pairing);
+        let ModuleLine { position, module } = *self;
+        let Module {
+            kind,
+            body,
+            gate,
+            source,
+            drain,
+            width,
+            tag,
+            pairing,
+        } = module;
+        let steps = width.steps();
+        let pair = PairWords(pairing);
         write!(
             f,
-            "M{position} {kind} {nets} width {width} tag {tag} {pair}"
+            "M{position} {kind} body {body} gate {gate} source {source} drain {drain} width {steps} tag {tag} {pair}"
         )
-    }
-}
-
-/// The nets of a module.
-#[derive(Copy)]
-#[derive_where(Clone; K: Copy)]
-struct NetWords<K>(Module<K>);
-
-impl<K: NamedKey> fmt::Display for NetWords<K> {
-    ghost output = { λ n. Some (nets_text K.NamedKey.name n.0) };
-
-    fn fmt<W: fmt::Write>(&self, f: &mut fmt::Formatter<W>) -> fmt::Result {
-        let body = NetName(self.0.body);
-        let gate = NetName(self.0.gate);
-        let source = NetName(self.0.source);
-        let drain = NetName(self.0.drain);
-        write!(f, "body {body} gate {gate} source {source} drain {drain}")
     }
 }

@@ -1,7 +1,10 @@
 //! The keys by which a circuit names its nets.
 
-ghost use Rattle.std.specs.Prelude.{◌≡◌, Decides};
+ghost use Rattle.std.specs.Prelude.{◌≡◌, Decides, Some};
 ghost use Rattle.net.specs.Nets.{Net, number_net, instance_net};
+ghost use Rattle.net.specs.Names.{number_text, instance_text};
+
+use std::fmt;
 
 /// A key names one net. It can be asked only whether another key of its kind names the same net.
 pub trait NetKey: Copy {
@@ -26,6 +29,16 @@ impl NetKey for NumberKey {
     }
 }
 
+/// The number.
+impl fmt::Display for NumberKey {
+    ghost output = { λ k. Some (number_text k.0) };
+
+    fn fmt<W: fmt::Write>(&self, f: &mut fmt::Formatter<W>) -> fmt::Result {
+        let number = self.0;
+        write!(f, "{number}")
+    }
+}
+
 /// A net of one instance of a cell. Net numbers 0 to 15 are rails: each is one net in all instances.
 #[derive(Clone, Copy)]
 pub struct InstanceKey {
@@ -38,5 +51,20 @@ impl NetKey for InstanceKey {
 
     fn same(&self, other: &InstanceKey) -> bool {
         self.number == other.number && (self.number < 16 || self.instance == other.instance)
+    }
+}
+
+/// The number alone for a rail; for any other net the instance, a full stop and the number.
+impl fmt::Display for InstanceKey {
+    ghost output = { λ k. Some (instance_text k.instance k.number) };
+
+    fn fmt<W: fmt::Write>(&self, f: &mut fmt::Formatter<W>) -> fmt::Result {
+        let instance = self.instance;
+        let number = self.number;
+        if number < 16 {
+            write!(f, "{number}")
+        } else {
+            write!(f, "{instance}.{number}")
+        }
     }
 }

@@ -22,7 +22,7 @@ pub enum Kind {
 #[derive(Clone, Copy, PartialEq, Eq)]
 pub struct UnknownKind(pub u8);
 
-// The same four impls stand at `Side`: an impl of one of std's traits is for one type.
+// The same three impls stand at `Side`: an impl of one of std's traits is for one type.
 impl TryFrom<u8> for Kind {
     type Error = UnknownKind;
 

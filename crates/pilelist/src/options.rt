@@ -1,7 +1,9 @@
 //! The options of the command line.
 
+ghost use Rattle.std.specs.Prelude.{◌≡◌, ◌↔◌, IsSome, Some, None};
 ghost use Rattle.pilelist.specs.Numbers.{Reads};
 
+use layers::WidthRange;
 use std::env;
 use std::env::Args;
 use std::rt::Env;
@@ -16,7 +18,7 @@ pub const USAGE: &str =
   --totals           only the line of totals";
 
 /// The layers that are asked for, lowest first, and whether only the totals are to be told.
-#[derive(Clone, Copy)]
+#[derive(Clone, Copy, Default)]
 pub struct Options {
     /// How many instances of the deck stand in a row.
     pub instances: Option<u16>,
@@ -25,15 +27,8 @@ pub struct Options {
     /// Where a module of the class stands before folding.
     pub class: Option<usize>,
     /// The widths of the modules to keep.
-    pub widths: Option<Widths>,
+    pub widths: Option<WidthRange>,
     pub only_totals: bool,
-}
-
-/// A range of widths, both ends included.
-#[derive(Clone, Copy)]
-pub struct Widths {
-    pub lowest: u16,
-    pub highest: u16,
 }
 
 impl Options {
@@ -46,22 +41,16 @@ impl Options {
 
     /// The options that the words give, or None where they are no options. Each is given at most once.
     fn parse(mut words: Args) -> Option<Options> {
-        let mut options = Options {
-            instances: None,
-            limit: None,
-            class: None,
-            widths: None,
-            only_totals: false,
-        };
+        let mut options = Options::default();
         while let Some(word) = words.next() {
             match word.as_str() {
-                "--row" => options.instances = once(options.instances, number16(&words.next()?)?)?,
-                "--fold" => options.limit = once(options.limit, number16(&words.next()?)?)?,
-                "--class" => options.class = once(options.class, number(&words.next()?)?)?,
+                "--row" => put_once(&mut options.instances, number16(&words.next()?)?)?,
+                "--fold" => put_once(&mut options.limit, number16(&words.next()?)?)?,
+                "--class" => put_once(&mut options.class, number(&words.next()?)?)?,
                 "--widths" => {
                     let lowest = number16(&words.next()?)?;
                     let highest = number16(&words.next()?)?;
-                    options.widths = once(options.widths, Widths { lowest, highest })?;
+                    put_once(&mut options.widths, WidthRange { lowest, highest })?;
                 }
                 "--totals" if !options.only_totals => options.only_totals = true,
                 _ => return None,
@@ -71,12 +60,12 @@ impl Options {
     }
 }
 
-/// The value for an option, or None where it has one already.
-fn once<T: Copy>(before: Option<T>, value: T) -> Option<Option<T>> {
-    match before {
-        None => Some(Some(value)),
-        Some(_) => None,
-    }
+/// Gives the option its value, or None where it has one already.
+fn put_once<T: Copy>(option: &mut Option<T>, value: T) -> Option<()>
+    ensures once { IsSome result ↔ (option.old ≡ None) }
+    ensures put { option.new ≡ Some value }
+{
+    option.replace(value).is_none().then_some(())
 }
 
 /// The number that the word writes in decimal, without a sign.
