@@ -2,7 +2,7 @@
 
 #![tactic(auto)]
 
-ghost use Rattle.std.specs.Prelude.{◌≡◌, ◌*◌, ◌/◌, ◌%◌, ◌≤◌, ◌∷◌, map, length};
+ghost use Rattle.std.specs.Prelude.{◌≡◌, ◌*◌, ◌≤◌, ◌∷◌, map, length};
 ghost use Rattle.refusal.specs.Written.{over};
 ghost use Rattle.deck.specs.Format.{transistor, operands, entries_bytes};
 ghost use Rattle.writer.specs.Writing.{table_deck, writer_answer, writer_buffer};
