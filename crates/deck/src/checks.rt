@@ -59,6 +59,7 @@ fn check_commands(commands: Commands<'_>) -> Result<(), Refusal>
     ensures { MatchResult result (λ _. Ended commands.entry.rest.now) (λ x. Stopped commands.entry.rest.now x) }
 {
     let mut left = commands;
+    // Counted by hand: the loop ends at end or at the first refusal, and answers with it.
     let mut transistors = 0usize;
     loop {
         let (command, behind) = left.read()?;
@@ -91,6 +92,7 @@ fn check_transistor(transistor: &Record, offset: usize, before: usize) -> Result
 }
 
 /// Where a field begins among the operands of a transistor.
+// The format fixes these numbers.
 fn operand_offset(field: Field) -> usize
     ensures value { result ≡ operand_offset field }
     ensures bound { result < 16 }

@@ -9,6 +9,7 @@ use crate::checks::check;
 use refusal::Refusal;
 
 /// The bytes of a deck. A deck that its check refuses tells nothing.
+// A table has this shape too. One type for both would take a trait for their checks, and be longer than the two.
 #[derive(Clone, Copy)]
 pub struct Deck<'a> {
     pub(crate) bytes: &'a [u8],

@@ -66,6 +66,7 @@ impl<'a> Circuit for Deck<'a> {
     }
 
     fn next(&self, cursor: &mut Commands<'a>) -> Option<Module<NumberKey>> {
+        // Neither `for` nor `find_map`: a proof does not learn of them where the cursor stands at the end.
         while let Some(command) = cursor.next() {
             if let Command::Transistor(transistor) = command {
                 if let Ok(m) = Module::try_from(&transistor) {

@@ -40,6 +40,7 @@ impl<C: Circuit, T: ModuleTest<C::Key>> Circuit for Filtered<C, T> {
     }
 
     fn next(&self, cursor: &mut C::Cursor) -> Option<Module<C::Key>> {
+        // No `find`: it would take an iterator that borrows the cursor, and say the same in more lines.
         while let Some(m) = self.below.next(cursor) {
             if self.test.test(&m) {
                 return Some(m);

@@ -7,6 +7,7 @@ use net::Pairing;
 use std::fmt;
 
 /// Whether a module is paired: then the number of its pair and its side.
+// A wrapper, since an Option has no `Display` and can be given none.
 #[derive(Clone, Copy)]
 pub(crate) struct PairWords(pub(crate) Option<Pairing>);
 

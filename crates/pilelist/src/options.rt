@@ -42,6 +42,7 @@ impl Options {
     /// The options that the words give, or None where they are no options. Each is given at most once.
     fn parse(mut words: Args) -> Option<Options> {
         let mut options = Options::default();
+        // No `for`: an option takes the words behind it.
         while let Some(word) = words.next() {
             match word.as_str() {
                 "--row" => put_once(&mut options.instances, number16(&words.next()?)?)?,
@@ -79,6 +80,7 @@ fn number(word: &str) -> Option<usize>
 }
 
 /// The same at 16 bits.
+// By `number`: a generic one would owe a contract for each type's `parse`.
 fn number16(word: &str) -> Option<u16>
     ensures { Reads 16 word.now result }
 {

@@ -36,6 +36,7 @@ impl TryFrom<&Record> for Module<NumberKey> {
     ghost try_from_gives = { λ d r. ReadsRecord d.now r };
 
     fn try_from(transistor: &Record) -> Result<Module<NumberKey>, Field> {
+        // By `let`: only so a proof knows that 16 bits hold a number that is copied from behind a reference.
         let tag = transistor.tag;
         Ok(Module {
             kind: Kind::try_from(transistor.kind)?,

@@ -5,6 +5,7 @@ use crate::refusal::Refusal;
 
 /// Writes a text at the front of `buf`, and answers its length. Where it does not fit, the buffer
 /// is left as it was.
+// Into the caller's buffer, since the library allocates nothing.
 pub(crate) fn write_text(buf: &mut [u8], text: &str) -> Result<usize, Refusal>
     ensures answer { result ≡ answer_of text.now buf.old }
     ensures after { buf.new ≡ buffer_after text.now buf.old }

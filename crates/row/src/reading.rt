@@ -64,6 +64,7 @@ fn room_behind(room: u32, m: &Module<NumberKey>) -> Option<u32>
 }
 
 /// The module as one of the instance.
+// No `From`: the instance is a second value beside the module.
 fn at_instance(instance: u8, m: &Module<NumberKey>) -> Module<InstanceKey>
     ensures { instance_told result ≡ as_instance instance (number_told m.now) }
 {

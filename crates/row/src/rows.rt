@@ -46,6 +46,7 @@ impl<C: Circuit<Key = NumberKey>> Row<C> {
 }
 
 /// How many of so many instances are told: all, or none where the row does not fit.
+// No Option: 0 is a count, and a row of no instances tells nothing too.
 fn instances_told<C: Circuit<Key = NumberKey>>(cell: &C, instances: u16) -> u8
     ensures told { result ≡ (if row_fits instances (C.Circuit.list cell.now) then instances else 0) }
     ensures few { result ≤ 16 }

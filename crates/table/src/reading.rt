@@ -11,6 +11,7 @@ use net::{Module, NumberKey};
 impl<'a> Circuit for Table<'a> {
     type Key = NumberKey;
 
+    // A position, since a cursor is `Copy` and a slice's iterator is not.
     type Cursor = usize;
 
     ghost list = { λ t. told_by t.verdict t.records.now };

@@ -50,6 +50,7 @@ fn put_transistors(records: &[Record], buf: &mut [u8])
     requires { 17 * length records.now ≤ length buf.old }
     ensures { buf.new ≡ over (entries_bytes (map transistor records.now)) buf.old }
 {
+    // By index: of chunks that borrow the buffer a proof knows nothing once the borrow ends.
     for (i, record) in records.iter().enumerate() {
         let at = TRANSISTOR_BYTES * i;
         buf[at..at + TRANSISTOR_BYTES].copy_from_slice(&transistor_bytes(record));
