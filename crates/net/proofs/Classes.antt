@@ -7,12 +7,17 @@ use Rattle.net.specs.Mods.{Mod}
 use Rattle.net.specs.Classes.{SameClass, same_kind, is_paired, same_class}
 use Rattle.net.specs.declared.modules.Kind.{Kind}
 use Rattle.net.specs.declared.modules.Kind.TheVariants.{NChannel, PChannel}
+use Rattle.net.specs.contracts.modules.KindPartialEq.TheImpl as kind_eq
 
 decides_kind : (a b : Kind) → Decides (same_kind a b) (a ≡ b)
 decides_kind NChannel NChannel = search rules
 decides_kind NChannel PChannel = search rules
 decides_kind PChannel NChannel = search rules
 decides_kind PChannel PChannel = search rules
+
+-- what `==` on kinds answers is the test
+pub kind_flag : (a b : Kind) → (kind_eq.ghosts).eq a b ≡ same_kind a b
+kind_flag a b = same_from_decides _ (same_kind a b) (λ e. search rules, λ e. search rules) (decides_kind a b)
 
 decides_class : (a b : Mod) → Decides (same_class a b) (SameClass a b)
 decides_class a b =

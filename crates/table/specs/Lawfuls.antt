@@ -5,6 +5,7 @@ use Rattle.std.specs.List.{AllByRecursion}
 use Rattle.std.proofs.lemmas.List.{length-map}
 use Rattle.std.proofs.ByRecursion.{All-weaker, sum_by_le}
 use Rattle.std.proofs.lemmas.Bool.{and_parts, leb-true, ltb-true, ltb-false, eq-eqb}
+use Rattle.refusal.specs.declared.refusal.Refusal.{Refusal}
 use Rattle.refusal.specs.declared.refusal.Refusal.TheVariants.{OutOfRange, TooManyTransistors}
 use Rattle.net.specs.Mods.{Mod, InRange, Lawful}
 use Rattle.net.specs.declared.modules.Side.TheVariants.{Left, Right}
@@ -45,6 +46,10 @@ few_lawful ms each few =
 pub fits_all_range : (rs : List Record) → AllByRecursion (λ r. fits r ≡ true) rs → AllByRecursion InRange (map stated rs)
 fits_all_range [] h = tt
 fits_all_range (r ∷ rs) h = (fits_range r h.0, fits_all_range rs h.1)
+
+-- a refusal is no acceptance
+pub err_ok : {P : Type 0} (x : Refusal) → ◌≡◌ {A = Verdict} (Err x) (Ok tt) → P
+err_ok x h = absurd (cc)
 
 none_unfit : (i : ℕ) (rs : List Record) → unfit_from i rs ≡ Ok tt → AllByRecursion (λ r. fits r ≡ true) rs
 none_unfit i [] h = tt
