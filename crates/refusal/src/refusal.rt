@@ -1,5 +1,4 @@
-ghost use Rattle.std.specs.Prelude.{◌≡◌};
-ghost use Rattle.refusal.specs.Refusals.{number_of, place_of};
+//! The reasons for refusing.
 
 /// Why a request was refused. Each reason has a number and a place.
 #[derive(Clone, Copy, PartialEq, Eq)]
@@ -41,56 +40,4 @@ pub enum Refusal {
     NoCover,
     /// 31: the buffer is too short. Place: the length needed.
     TooShort { needed: usize },
-}
-
-impl Refusal {
-    /// The number of the reason.
-    // Written out: the format fixes the numbers, and a variant with fields has none of its own.
-    pub fn number(&self) -> u8
-        ensures { result ≡ number_of self.now }
-    {
-        match self {
-            Refusal::TooLong { .. } => 1,
-            Refusal::UnknownCommand { .. } => 2,
-            Refusal::CutShort { .. } => 3,
-            Refusal::OutOfOrder { .. } => 4,
-            Refusal::OutOfRange { .. } => 5,
-            Refusal::TooManyTransistors { .. } => 6,
-            Refusal::Unread => 11,
-            Refusal::LoadedAlready => 12,
-            Refusal::BadCapacitances => 13,
-            Refusal::TooManyModules { .. } => 14,
-            Refusal::OtherClass { .. } => 15,
-            Refusal::BadTwin { .. } => 16,
-            Refusal::NoSuch { .. } => 17,
-            Refusal::AlreadyWithdrawn { .. } => 18,
-            Refusal::NotWithdrawn { .. } => 19,
-            Refusal::BadEnd { .. } => 20,
-            Refusal::NoCover => 21,
-            Refusal::TooShort { .. } => 31,
-        }
-    }
-
-    /// Where the reason lies; 0 for a reason without a place.
-    pub fn place(&self) -> usize
-        ensures { result ≡ place_of self.now }
-    {
-        match *self {
-            Refusal::TooLong { length } | Refusal::CutShort { length } => length,
-            Refusal::UnknownCommand { offset } | Refusal::OutOfOrder { offset } => offset,
-            Refusal::OutOfRange { place } | Refusal::TooManyTransistors { place } => place,
-            Refusal::TooManyModules { count } => count,
-            Refusal::OtherClass { position }
-            | Refusal::BadTwin { position }
-            | Refusal::AlreadyWithdrawn { position }
-            | Refusal::NotWithdrawn { position } => position,
-            Refusal::NoSuch { number } => number,
-            Refusal::BadEnd { end } => end,
-            Refusal::TooShort { needed } => needed,
-            Refusal::Unread
-            | Refusal::LoadedAlready
-            | Refusal::BadCapacitances
-            | Refusal::NoCover => 0,
-        }
-    }
 }
