@@ -32,7 +32,8 @@ pub trait Circuit {
         ensures { Steps Self.Key.NetKey.net (rest self.now cursor.old) result (rest self.now cursor.new) };
 
     /// How many modules there are.
-    // Counted by hand: no proof can hand a trait on from a body in that trait, as `modules(self)` would.
+    // Counted by hand: no proof can hand a trait on from a body in that trait, as `modules(self)` would, or knows that an
+    // iterator made `from_fn` ends.
     fn count(&self) -> usize
         ensures { result ≡ length (list self.now) }
     {
@@ -57,6 +58,7 @@ pub trait Circuit {
 }
 
 /// A borrowed circuit is a circuit.
+// Each body hands on: that is what makes the borrowed one answer as the other does.
 impl<'a, C: Circuit> Circuit for &'a C {
     type Key = C::Key;
 

@@ -1,4 +1,4 @@
-//! The bytes that a deck's commands begin with.
+//! The bytes that a deck's commands begin with. The format fixes them; `Command` is what they mean.
 
 /// Begin, which opens a deck.
 pub const BEGIN: u8 = 0x10;

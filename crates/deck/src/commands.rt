@@ -14,6 +14,7 @@ pub enum Command<'a> {
 }
 
 /// The record that the operands of a transistor state.
+// No `From`: it would be between types of other crates, which cannot be had here.
 pub(crate) fn record_of(bytes: &[u8; 16]) -> Record
     ensures { operands result ≡ bytes.now }
 {

@@ -21,6 +21,7 @@ impl<'a> Iterator for Commands<'a> {
     ghost remaining = { λ s. at_most (length (entries_in 0 s.rest.now)) };
 
     fn next(&mut self) -> Option<Command<'a>> {
+        // No `.ok()?`: it is as long, and its proof longer.
         let Ok((command, behind)) = self.read() else {
             return None;
         };

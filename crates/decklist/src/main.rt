@@ -26,7 +26,7 @@ fn list_input(rt: &(impl Input + Print + AllocGlobal)) -> io::Result<()> {
 
 /// Prints a line for each transistor, and then what the deck of so many bytes has.
 fn list(rt: &impl Print, deck: &Deck<'_>, bytes: usize) -> io::Result<()> {
-    let transistors = list_modules(rt, deck, false)?.modules;
+    let transistors = list_modules(rt, deck)?.modules;
     let remarks = deck
         .commands()
         .filter(|command| matches!(command, Command::Remark { .. }))

@@ -70,6 +70,7 @@ impl<K: NetKey> Iterator for Fingers<K> {
             return None;
         }
         let width = self.width();
+        // The count is the iterator's state: a Range in its place would be no `Copy`, as a cursor is.
         self.told += 1;
         Some(Module {
             width,

@@ -27,6 +27,7 @@ impl<K: NetKey> ModuleTest<K> for Class<K> {
 pub type ClassLayer<C, K> = Filtered<C, Class<K>>;
 
 /// The layer over that circuit that keeps the class of `like`, which need not stand in the circuit.
+// One equation for each part, as `width_layer` and `Folding::new` have for theirs: three constructors of three types.
 pub fn class_layer<C: Circuit>(below: C, like: Module<C::Key>) -> ClassLayer<C, C::Key>
     ensures below { result.below ≡ below }
     ensures like { result.test.like ≡ like }

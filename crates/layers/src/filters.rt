@@ -40,7 +40,7 @@ impl<C: Circuit, T: ModuleTest<C::Key>> Circuit for Filtered<C, T> {
     }
 
     fn next(&self, cursor: &mut C::Cursor) -> Option<Module<C::Key>> {
-        // No `find`: it would take an iterator that borrows the cursor, and say the same in more lines.
+        // No `find` over `from_fn`: no proof knows that such an iterator ends.
         while let Some(m) = self.below.next(cursor) {
             if self.test.test(&m) {
                 return Some(m);

@@ -26,6 +26,7 @@ impl<K: NetKey> ModuleTest<K> for WidthRange {
 pub type WidthLayer<C> = Filtered<C, WidthRange>;
 
 /// The layer over that circuit that keeps the widths from `lowest` to `highest`.
+// Two numbers and no `WidthRange`, which who has two widths would only make for this call.
 pub fn width_layer<C: Circuit>(below: C, lowest: u16, highest: u16) -> WidthLayer<C>
     ensures below { result.below ≡ below }
     ensures lowest { result.test.lowest ≡ lowest }

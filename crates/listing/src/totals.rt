@@ -1,11 +1,12 @@
 //! The lines of a circuit's modules, and what the modules come to in all.
 
-ghost use Rattle.std.specs.Prelude.{IfOk, Some};
+ghost use Rattle.std.specs.Prelude.{◌≡◌, ◌+◌, ◌^◌, ◌<◌, IfOk, Some};
 ghost use Rattle.listing.specs.Totals.{TotalsOf, totals_text};
 
 use crate::keys::NamedKey;
 use crate::lines::ModuleLine;
 use circuit::{Circuit, modules};
+use net::Width;
 use std::{fmt, io};
 
 /// How many modules there are, and their widths added up, in steps of 10 nm.
@@ -24,13 +25,38 @@ impl fmt::Display for Totals {
     }
 }
 
-/// Prints the line of each module of the circuit, unless only the totals are asked for, and gives the totals. One pass
-/// does both.
-pub fn list_modules<C: Circuit>(
-    rt: &impl Print,
-    circuit: &C,
-    only_totals: bool,
-) -> io::Result<Totals>
+impl Totals {
+    /// The totals of the circuit, added up in one pass.
+    pub fn of<C: Circuit>(circuit: &C) -> Totals
+        ensures { TotalsOf (C.Circuit.list circuit.now) result.modules result.steps }
+    {
+        let mut totals = Totals {
+            modules: 0,
+            steps: 0,
+        };
+        for (position, module) in modules(circuit).enumerate() {
+            totals = totals.and(position, module.width);
+        }
+        totals
+    }
+
+    /// These totals of the modules before that position, and the module that stands there.
+    fn and(self, position: usize, width: Width) -> Totals
+        requires place { position + 1 < 2 ^ 64 }
+        requires room { self.steps + width.steps < 2 ^ 32 }
+        ensures modules { result.modules ≡ position + 1 }
+        ensures steps { result.steps ≡ self.steps + width.steps }
+    {
+        Totals {
+            modules: position + 1,
+            steps: self.steps + u32::from(width.steps()),
+        }
+    }
+}
+
+/// Prints the line of each module of the circuit, and gives the totals. One pass does both.
+// The handle stands beside the circuit in each function that prints: a struct that held both would be handed on as often.
+pub fn list_modules<C: Circuit>(rt: &impl Print, circuit: &C) -> io::Result<Totals>
 where
     C::Key: NamedKey,
     ensures { IfOk result (λ t. TotalsOf (C.Circuit.list circuit.now) t.modules t.steps) }
@@ -40,11 +66,8 @@ where
         steps: 0,
     };
     for (position, module) in modules(circuit).enumerate() {
-        if !only_totals {
-            rt.println(ModuleLine { position, module })?;
-        }
-        totals.modules = position + 1;
-        totals.steps += u32::from(module.width.steps());
+        rt.println(ModuleLine { position, module })?;
+        totals = totals.and(position, module.width);
     }
     Ok(totals)
 }

@@ -39,6 +39,9 @@ impl fmt::Display for NumberKey {
     }
 }
 
+/// Net numbers below this one are rails.
+const RAILS: u16 = 16;
+
 /// A net of one instance of a cell. Net numbers 0 to 15 are rails: each is one net in all instances.
 #[derive(Clone, Copy)]
 pub struct InstanceKey {
@@ -50,7 +53,7 @@ impl NetKey for InstanceKey {
     ghost net = { λ k. instance_net k.instance k.number };
 
     fn same(&self, other: &InstanceKey) -> bool {
-        self.number == other.number && (self.number < 16 || self.instance == other.instance)
+        self.number == other.number && (self.number < RAILS || self.instance == other.instance)
     }
 }
 
@@ -61,7 +64,7 @@ impl fmt::Display for InstanceKey {
     fn fmt<W: fmt::Write>(&self, f: &mut fmt::Formatter<W>) -> fmt::Result {
         let instance = self.instance;
         let number = self.number;
-        if number < 16 {
+        if number < RAILS {
             write!(f, "{number}")
         } else {
             write!(f, "{instance}.{number}")

@@ -14,8 +14,8 @@ use std::num::NonZeroU16;
 /// The kind of channel.
 #[derive(Clone, Copy, PartialEq, Eq)]
 pub enum Kind {
-    NChannel,
-    PChannel,
+    NChannel = 0,
+    PChannel = 1,
 }
 
 /// A number that stands for no kind.
@@ -41,10 +41,7 @@ impl From<Kind> for u8 {
     ghost from_gives = { λ k n. (kind_fits n ≡ true) × (kind_of_number n ≡ k) };
 
     fn from(kind: Kind) -> u8 {
-        match kind {
-            Kind::NChannel => 0,
-            Kind::PChannel => 1,
-        }
+        kind as u8
     }
 }
 
@@ -62,8 +59,8 @@ impl fmt::Display for Kind {
 /// The side of a matched pair on which a module stands.
 #[derive(Clone, Copy, PartialEq, Eq)]
 pub enum Side {
-    Left,
-    Right,
+    Left = 0,
+    Right = 1,
 }
 
 /// A number that stands for no side.
@@ -88,10 +85,7 @@ impl From<Side> for u8 {
     ghost from_gives = { λ s n. (side_number_fits n ≡ true) × (side_of_number n ≡ s) };
 
     fn from(side: Side) -> u8 {
-        match side {
-            Side::Left => 0,
-            Side::Right => 1,
-        }
+        side as u8
     }
 }
 

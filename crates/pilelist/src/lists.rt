@@ -1,7 +1,7 @@
 //! The listing of a circuit.
 
 use circuit::Circuit;
-use listing::{NamedKey, list_modules};
+use listing::{NamedKey, Totals, list_modules};
 use std::io;
 
 /// Prints the modules of the circuit, unless only the totals are asked for, and behind them the totals.
@@ -9,6 +9,10 @@ pub fn list<C: Circuit>(rt: &impl Print, circuit: &C, only_totals: bool) -> io::
 where
     C::Key: NamedKey,
 {
-    let totals = list_modules(rt, circuit, only_totals)?;
+    let totals = if only_totals {
+        Totals::of(circuit)
+    } else {
+        list_modules(rt, circuit)?
+    };
     rt.println(totals)
 }

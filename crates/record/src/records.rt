@@ -85,6 +85,7 @@ fn pairing_of(pair: u16, side: u8) -> Result<Option<Pairing>, Field>
 }
 
 /// The pair number and the number of the side of that pairing.
+// No `From`, for the same reason.
 fn pairing_numbers(pairing: Option<Pairing>) -> (u16, u8)
     ensures ranges { (result.0 < 65536) × (side_fits result.0 result.1 ≡ true) }
     ensures value { (result.0 ≡ pair_of pairing) × (side_of_number result.1 ≡ side_of pairing) }

@@ -48,6 +48,7 @@ impl Fault {
     }
 
     /// The fault's line.
+    // Piece by piece: no proof finds that a `writeln!` of the fault into an `ArrayString` succeeds.
     fn line(&self) -> ArrayString<LINE_ROOM>
         ensures { result.bytes ≡ fault_line self.now }
     {

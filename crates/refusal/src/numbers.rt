@@ -37,6 +37,7 @@ impl Refusal {
     }
 
     /// Where the reason lies; 0 for a reason without a place.
+    // 0 and no None, as the format has it.
     pub fn place(&self) -> usize
         ensures { result ≡ place_of self.now }
     {

@@ -1,2 +1,3 @@
+pub mod Rails
 pub mod Fits
 pub mod Steps

@@ -11,7 +11,7 @@ use net::{Module, NumberKey};
 impl<'a> Circuit for Table<'a> {
     type Key = NumberKey;
 
-    // A position, since a cursor is `Copy` and a slice's iterator is not.
+    // A position and not the records behind it: a cursor may be any value, and those could be records that no check has seen.
     type Cursor = usize;
 
     ghost list = { λ t. told_by t.verdict t.records.now };

@@ -13,6 +13,7 @@ use refusal::Refusal;
 pub const MOST_TRANSISTORS: usize = 256;
 
 /// The records of transistors, with what the check answers of them: up to 256 are accepted. A table that is refused tells nothing.
+// A deck has this shape too. One type for both would take a trait for their checks, and be longer than the two.
 #[derive(Clone, Copy)]
 pub struct Table<'a> {
     records: &'a [Record],

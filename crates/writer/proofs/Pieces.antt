@@ -1,8 +1,7 @@
 -- The writing of a deck, piece by piece.
 use Rattle.std.proofs.Common.{◌≡◌, ℕ, ◌+◌, ◌-◌, ◌*◌, ◌<◌, ◌≤◌, List, [], ◌∷◌, ◌++◌, map, length, get_or, take, drop, set, Ok, Err, sym, refl, ap, ◌∙◌, arith}
 use borrow.Rule.Slice.PartMut.{put_mid}
-use Rattle.std.proofs.lemmas.List.{length-take-le, length-drop, length-set, take_all, take_more, take_rest, map_push}
-use Rattle.refusal.specs.declared.refusal.Refusal.{Refusal}
+use Rattle.std.proofs.lemmas.List.{length-take-le, length-drop, length-set, take_more, take_rest, map_push}
 use Rattle.refusal.specs.declared.refusal.Refusal.TheVariants.{TooShort}
 use Rattle.refusal.specs.Written.{over, over_at, answer_of, buffer_after}
 use Rattle.refusal.proofs.Writing.{Begun, begun_more, begun_byte, over_more, over_lent, length_over, answer_fits, after_fits, answer_short, after_short}
@@ -33,9 +32,6 @@ put_step rs i d buf entry part h inv e =
     ∙ ap (λ k. put_mid (17 * i) k buf more) {y = 17} (omega arith)
     ∙ ap (over_at (17 * i) more) inv ∙ over_more (text (take i rs)) more entry (17 * i) at
     ∙ ap (λ t. over t entry) (sym (text_more rs i d h))
-
-pub put_all : (rs : List Record) (i : ℕ) (buf entry : List ℕ) → length rs ≤ i → buf ≡ over (text (take i rs)) entry → buf ≡ over (text rs) entry
-put_all rs i buf entry h inv = inv ∙ ap (λ q. over (text q) entry) (take_all i rs h)
 
 -- the buffer with begin at its front
 abbrev pub begun : List ℕ → List ℕ
@@ -71,10 +67,6 @@ module _ (rs : List Record) (buf part : List ℕ) (h : length (table_deck rs) �
   put_whole = (begun_byte (2 + 17 * length rs) 0x7F (0x10 ∷ 1 ∷ text rs) buf filled put_text (omega (arith, long))).1
 
 -- the answers of the writer
-
-pub writer_refused : (rs : List Record) (buf : List ℕ) (x : Refusal) → table_verdict rs ≡ Err x → (Err x ≡ writer_answer rs buf) × (buf ≡ writer_buffer rs buf)
-writer_refused rs buf x h =
-    (sym (ap (λ v. checked_answer v (answer_of (table_deck rs) buf)) h), sym (ap (λ v. checked_buffer v buf (buffer_after (table_deck rs) buf)) h))
 
 module _ (rs xs : List Record) (buf : List ℕ) (same : xs ≡ rs) (h : table_verdict rs ≡ Ok tt) where
   needed : 3 + 17 * length xs ≡ length (table_deck rs)

@@ -35,6 +35,7 @@ pub fn write_deck(table: &Table<'_>, buf: &mut [u8]) -> Result<usize, Refusal>
 }
 
 /// Writes begin, a transistor for each record, and end.
+// By index, since the buffer is the caller's, and each part has its place in it.
 fn put_deck(records: &[Record], buf: &mut [u8])
     requires { length (table_deck records.now) ≤ length buf.old }
     ensures { buf.new ≡ over (table_deck records.now) buf.old }
@@ -58,6 +59,7 @@ fn put_transistors(records: &[Record], buf: &mut [u8])
 }
 
 /// The command of one transistor.
+// No `From`: it would be between types of other crates, which cannot be had here.
 fn transistor_bytes(t: &Record) -> [u8; TRANSISTOR_BYTES]
     ensures { result ≡ 0x20 ∷ operands t.now }
 {

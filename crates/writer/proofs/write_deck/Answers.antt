@@ -1,15 +1,7 @@
 use Rattle.std.proofs.Common.{sym, ◌∙◌}
-use Rattle.std.proofs.lemmas.Result.{err_from_is_err_and}
-use Rattle.writer.proofs.Pieces.{writer_refused, writer_short, writer_room, writer_done}
+use Rattle.writer.proofs.Pieces.{writer_short, writer_room, writer_done}
 use Rattle.writer.proofs.Trips.{read_back, written_again}
 use Rattle.writer.proofs.write_deck.Goals as goal
-
-pub returns-in_err-check : goal.returns-in_err-check
-returns-in_err-check c =
-    let rs = c.args.table.now.records.now in
-    let p = err_from_is_err_and c.from_residual.result c.from_residual.ensures.1 in
-    let w = writer_refused rs c.args.buf.now _ (sym c.check.ensures ∙ c.in_err-check.was) in
-    record { answer = rw (p.1, p.2) w.0; after = w.1; back = read_back rs; again = written_again rs }
 
 pub returns-then-buf-needed : goal.returns-then-buf-needed
 returns-then-buf-needed c =
