@@ -26,6 +26,7 @@ const fn transistor(tag: u16, kind: u8, body: u16, width: u16, pair: u16, side: 
 }
 
 /// Tag and width of each module that the circuit tells.
+// By position, so that `count` and `module` are asked too.
 fn told<C: Circuit>(heap: Global, circuit: &C) -> Result<Vec<(u16, u16)>, AllocError> {
     (0..circuit.count())
         .filter_map(|position| circuit.module(position))

@@ -24,6 +24,7 @@ pub fn read_deck<R: Read + Drop>(input: R, alloc: Global) -> io::Result<Vec<u8>>
 }
 
 /// Prints the fault line, and fails, as the program is to fail then.
+// The fault's two parts: who has them would make a fault only for this call.
 pub fn tell_fault(rt: &impl Print, layer: Layer, refusal: Refusal) -> io::Result<()>
     ensures { IsErr result }
 {

@@ -10,6 +10,7 @@ use record::Record;
 pub enum Command<'a> {
     Transistor(Record),
     Remark { offset: usize, bytes: &'a [u8; 16] },
+    // No None in its place: who reads a command has to tell end from a deck that is cut short.
     End,
 }
 

@@ -15,6 +15,7 @@ fn main(rt: HostRuntime) -> ExitCode {
 }
 
 /// Lists the deck on standard input, or tells its fault.
+// `pilelist` begins so too: one function for both would take a closure and the condition that it may be called.
 fn list_input(rt: &(impl Input + Print + AllocGlobal)) -> io::Result<()> {
     let bytes = read_deck(rt.reader(), rt.alloc())?;
     let deck = Deck::new(&bytes);
@@ -25,6 +26,7 @@ fn list_input(rt: &(impl Input + Print + AllocGlobal)) -> io::Result<()> {
 }
 
 /// Prints a line for each transistor, and then what the deck of so many bytes has.
+// The number of bytes is the input's, which a deck is not asked for.
 fn list(rt: &impl Print, deck: &Deck<'_>, bytes: usize) -> io::Result<()> {
     let transistors = list_modules(rt, deck)?.modules;
     let remarks = deck

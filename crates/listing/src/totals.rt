@@ -55,6 +55,7 @@ impl Totals {
 }
 
 /// Prints the line of each module of the circuit, and gives the totals. One pass does both.
+// The loop is that of `Totals::of` with a line printed in each turn: one loop for both would take a switch.
 // The handle stands beside the circuit in each function that prints: a struct that held both would be handed on as often.
 pub fn list_modules<C: Circuit>(rt: &impl Print, circuit: &C) -> io::Result<Totals>
 where

@@ -27,6 +27,7 @@ where
 }
 
 /// Lists the fingers that have the widths asked for.
+// The handle stands beside circuit and options: a struct that held them would be handed on as often.
 fn list_widths<C: Circuit>(rt: &impl Print, fingers: &C, options: Options) -> io::Result<()>
 where
     C::Key: NamedKey,
