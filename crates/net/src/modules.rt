@@ -8,6 +8,7 @@ ghost use Rattle.net.specs.Texts.{kind_text, side_text};
 
 use crate::keys::NetKey;
 use crate::widths::Width;
+use std::alloc::AllocError;
 use std::fmt;
 use std::num::NonZeroU16;
 
@@ -109,7 +110,6 @@ pub struct Pairing {
 
 /// One finger of one transistor, its nets named by keys. The tag is carried along.
 #[derive(Copy)]
-#[derive_where(Clone; K: Copy)]
 pub struct Module<K> {
     pub kind: Kind,
     pub body: K,
@@ -119,6 +119,17 @@ pub struct Module<K> {
     pub width: Width,
     pub tag: u16,
     pub pairing: Option<Pairing>,
+}
+
+// Written out: a derive would clone each key, of which a `Clone` of the caller's may fail or give another.
+impl<K: Copy> Clone for Module<K> {
+    ghost is_clone = { λ x y. y ≡ x };
+
+    ghost is_infallible = { λ _. Unit {0} };
+
+    fn clone(&self) -> Result<Module<K>, AllocError> {
+        Ok(*self)
+    }
 }
 
 impl<K> Module<K> {
