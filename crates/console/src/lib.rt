@@ -25,10 +25,12 @@ pub fn read_deck<R: Read + Drop>(input: R, alloc: Global) -> io::Result<Vec<u8>>
 
 /// Prints the fault line, and fails, as the program is to fail then.
 // The fault's two parts: who has them would make a fault only for this call.
+// By the line and no `println!`: what a value prints is promised only where printing does not fail, the line always.
 pub fn tell_fault(rt: &impl Print, layer: Layer, refusal: Refusal) -> io::Result<()>
     ensures { IsErr result }
 {
-    rt.println(Fault { layer, refusal })?;
+    let line = Fault { layer, refusal }.line();
+    rt.print(line.as_str())?;
     Err(io::Error::from(io::ErrorKind::InvalidData))
 }
 

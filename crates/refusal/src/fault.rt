@@ -27,7 +27,7 @@ impl Layer {
 }
 
 /// Room for a line: `F`, numbers of at most 3, 3 and 20 digits, each behind a space, and a newline.
-const LINE_ROOM: usize = 31;
+pub const LINE_ROOM: usize = 31;
 
 /// A refusal, and the layer that gave it.
 #[derive(Clone, Copy, PartialEq, Eq)]
@@ -47,9 +47,9 @@ impl Fault {
         write_text(buf, self.line().as_str())
     }
 
-    /// The fault's line.
+    /// The fault's line, with its newline.
     // Piece by piece: no proof finds that a `writeln!` of the fault into an `ArrayString` succeeds.
-    fn line(&self) -> ArrayString<LINE_ROOM>
+    pub fn line(&self) -> ArrayString<LINE_ROOM>
         ensures { result.bytes ≡ fault_line self.now }
     {
         let mut digits = itoa::Buffer::new();

@@ -7,6 +7,6 @@ mod numbers;
 mod refusal;
 mod written;
 
-pub use fault::{Fault, Layer};
+pub use fault::{Fault, LINE_ROOM, Layer};
 pub use refusal::Refusal;
 pub use written::write_decimal;
