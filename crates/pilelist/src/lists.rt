@@ -1,18 +1,30 @@
 //! The listing of a circuit.
 
+ghost use Rattle.std.specs.Prelude.{IfOk};
+ghost use Rattle.listing.specs.Totals.{TotalsOf};
+
 use circuit::Circuit;
 use listing::{NamedKey, Totals, list_modules};
 use std::io;
 
-/// Prints the modules of the circuit, unless only the totals are asked for, and behind them the totals.
+/// Prints the totals of the circuit, and before them its modules unless only the totals are asked for. One pass does both.
 pub fn list<C: Circuit>(rt: &impl Print, circuit: &C, only_totals: bool) -> io::Result<()>
 where
     C::Key: NamedKey,
 {
-    let totals = if only_totals {
-        Totals::of(circuit)
-    } else {
-        list_modules(rt, circuit)?
-    };
+    let totals = list_or_add(rt, circuit, only_totals)?;
     rt.println(totals)
+}
+
+/// Prints a line for each module, unless only the totals are asked for, and gives the totals.
+fn list_or_add<C: Circuit>(rt: &impl Print, circuit: &C, only_totals: bool) -> io::Result<Totals>
+where
+    C::Key: NamedKey,
+    ensures { IfOk result (λ t. TotalsOf (C.Circuit.list circuit.now) t.modules t.steps) }
+{
+    if only_totals {
+        Ok(Totals::of(circuit))
+    } else {
+        list_modules(rt, circuit)
+    }
 }
