@@ -1,9 +1,7 @@
 -- The fingers into which a folding layer cuts the modules below.
-use Rattle.std.specs.Prelude.{ℕ, ◌+◌, ◌-◌, ◌/◌, ◌%◌, min, cond, List, [], ◌∷◌, ◌++◌, map, Some, None, Option, ◌==◌, nat_lt}
+use Rattle.std.specs.Prelude.{ℕ, ◌+◌, ◌-◌, ◌/◌, ◌%◌, min, cond, List, [], ◌∷◌, ◌++◌, map, ◌==◌, nat_lt}
 use Rattle.std.specs.List.{range_with_len}
-use Rattle.net.specs.Nets.{Net}
-use Rattle.net.specs.Mods.{Mod, meaning}
-use Rattle.folding.specs.declared.fingers.Fingers.{Fingers}
+use Rattle.net.specs.Mods.{Mod}
 
 -- how many fingers a width becomes under a limit: width / limit, rounded up. The limit 0 folds nothing
 abbrev pub finger_count : ℕ → ℕ → ℕ
@@ -29,12 +27,3 @@ fingers limit m = map (finger (finger_count limit m.width) m) (range_with_len 0 
 abbrev pub folded_by : ℕ → List Mod → List Mod
 folded_by limit [] = []
 folded_by limit (m ∷ ms) = fingers limit m ++ folded_by limit ms
-
--- the fingers of a module that are still to be told
-abbrev pub untold : {K : Type 0} → (K → Net) → Fingers K → List Mod
-untold net f = fingers_from f.told f.count (meaning net f.whole)
-
--- the same of the module under way, where one is
-abbrev pub under_way : {K : Type 0} → (K → Net) → Option (Fingers K) → List Mod
-under_way net None = []
-under_way net (Some f) = untold net f

@@ -1,3 +1,4 @@
 pub mod Folds
+pub mod Untold
 pub mod Lawfuls
 pub mod Laws

@@ -2,17 +2,20 @@
 
 ghost use Rattle.std.specs.Prelude.{◌≡◌, ◌≤◌};
 ghost use Rattle.net.specs.Mods.{meaning};
+ghost use Rattle.folding.specs.Folds.{finger_count};
 
 use crate::cutting::finger_count;
 use net::{Module, NetKey, Width};
 use std::alloc::AllocError;
 
-/// The fingers of a module that are still to be told.
+/// The fingers of a module that are still to be told, and the limit under which they are so many.
 #[derive(Copy)]
 pub(crate) struct Fingers<K> {
     whole: Module<K>,
+    limit: u16,
     count: u16,
     told: u16,
+    ghost counted: { count ≡ finger_count limit whole.width.steps },
     ghost some: { 1 ≤ count },
     ghost narrow: { count ≤ whole.width.steps },
 }
@@ -29,17 +32,34 @@ impl<K: Copy> Clone for Fingers<K> {
 }
 
 impl<K: NetKey> Fingers<K> {
-    ghost use Rattle.folding.specs.Folds.{finger_width, fingers, untold};
+    ghost use Rattle.circuit.specs.Tells.{Steps};
+    ghost use Rattle.folding.specs.Folds.{finger_width, fingers};
+    ghost use Rattle.folding.specs.Untold.{untold, untold_under};
 
     /// All fingers of the module under that limit.
     pub(crate) fn new(whole: Module<K>, limit: u16) -> Fingers<K>
         ensures all { untold K.NetKey.net result ≡ fingers limit (meaning K.NetKey.net whole) }
+        ensures under { untold_under K.NetKey.net limit result ≡ fingers limit (meaning K.NetKey.net whole) }
     {
         Fingers {
             count: finger_count(limit, whole.width),
             whole,
+            limit,
             told: 0,
         }
+    }
+
+    /// The next finger under that limit, whatever the limit of these so far.
+    pub(crate) fn next_under(&mut self, limit: u16) -> Option<Module<K>>
+        ensures { Steps K.NetKey.net (untold_under K.NetKey.net limit self.old) result (untold_under K.NetKey.net limit self.new) }
+    {
+        // A case of its own: so a pass divides once a module, and not once a finger.
+        if limit == self.limit {
+            return self.next();
+        }
+        self.count = finger_count(limit, self.whole.width);
+        self.limit = limit;
+        self.next()
     }
 
     /// The width of the next finger.
@@ -57,11 +77,12 @@ impl<K: NetKey> Fingers<K> {
 
 impl<K: NetKey> Iterator for Fingers<K> {
     ghost use Rattle.std.specs.Iterator.{YieldsFirstBy, item_count};
-    ghost use Rattle.folding.specs.Folds.{untold};
+    ghost use Rattle.folding.specs.Untold.{untold};
 
     type Item = Module<K>;
 
-    ghost next_gives = { YieldsFirstBy (meaning K.NetKey.net) (untold K.NetKey.net) };
+    // the first of what is untold, under the same limit
+    ghost next_gives = { λ s r t. YieldsFirstBy (meaning K.NetKey.net) (untold K.NetKey.net) s r t × (t.limit ≡ s.limit) };
 
     ghost remaining = { item_count (untold K.NetKey.net) };
 

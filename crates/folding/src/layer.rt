@@ -1,7 +1,8 @@
 //! The layer and its passes.
 
 ghost use Rattle.std.specs.Prelude.{◌≡◌, ◌++◌};
-ghost use Rattle.folding.specs.Folds.{folded_by, under_way};
+ghost use Rattle.folding.specs.Folds.{folded_by};
+ghost use Rattle.folding.specs.Untold.{under_way};
 ghost use Rattle.folding.specs.Lawfuls.{folded_lawful};
 ghost use Rattle.folding.specs.Laws.{FoldsWell, FoldsTwins};
 
@@ -44,7 +45,7 @@ impl<C: Circuit> Circuit for Folding<C> {
 
     ghost list = { λ s. folded_by s.limit (C.Circuit.list s.below) };
 
-    ghost rest = { λ s cursor. under_way C.Key.NetKey.net cursor.fingers ++ folded_by s.limit (C.Circuit.rest s.below cursor.below) };
+    ghost rest = { λ s cursor. under_way C.Key.NetKey.net s.limit cursor.fingers ++ folded_by s.limit (C.Circuit.rest s.below cursor.below) };
 
     ghost lawful = { λ s. folded_lawful s.limit (C.Circuit.list s.below) (C.Circuit.lawful s.below) };
 
@@ -55,14 +56,15 @@ impl<C: Circuit> Circuit for Folding<C> {
         }
     }
 
+    #[inline(always)]
     fn next(&self, cursor: &mut FoldingCursor<C::Cursor, C::Key>) -> Option<Module<C::Key>> {
         if let Some(fingers) = &mut cursor.fingers
-            && let Some(finger) = fingers.next()
+            && let Some(finger) = fingers.next_under(self.limit)
         {
             return Some(finger);
         }
         let m = self.below.next(&mut cursor.below)?;
         let fingers = Fingers::new(m, self.limit);
-        cursor.fingers.insert(fingers).next()
+        cursor.fingers.insert(fingers).next_under(self.limit)
     }
 }

@@ -6,7 +6,8 @@ use Rattle.net.specs.Mods.{Mod, meaning}
 use Rattle.net.specs.Classes.{same_class}
 use Rattle.layers.specs.Kept.{in_widths}
 use Rattle.folding.specs.declared.fingers.Fingers.{Fingers}
-use Rattle.folding.specs.Folds.{folded_by, under_way}
+use Rattle.folding.specs.Folds.{folded_by}
+use Rattle.folding.specs.Untold.{under_way}
 use Rattle.pile.specs.declared.piles.HousePile.{HousePile}
 
 -- the fingers of the circuit that are of the class of a module, of widths from 1 to 4,095
@@ -15,7 +16,7 @@ house_pile limit like ms = filter (in_widths 1 4095) (filter (same_class like) (
 
 -- what is still to be told, when that is left below and those fingers of the module under way
 abbrev pub pile_rest : {K : Type 0} → (K → Net) → ℕ → Module K → Option (Fingers K) → List Mod → List Mod
-pile_rest net limit like fingers below = filter (in_widths 1 4095) (filter (same_class (meaning net like)) (under_way net fingers ++ folded_by limit below))
+pile_rest net limit like fingers below = filter (in_widths 1 4095) (filter (same_class (meaning net like)) (under_way net limit fingers ++ folded_by limit below))
 
 -- The parts of a house pile
 
