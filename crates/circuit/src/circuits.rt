@@ -74,6 +74,7 @@ impl<'a, C: Circuit> Circuit for &'a C {
         (**self).begin()
     }
 
+    #[inline(always)]
     fn next(&self, cursor: &mut C::Cursor) -> Option<Module<C::Key>> {
         (**self).next(cursor)
     }

@@ -32,6 +32,8 @@ impl<'a, C: Circuit> Iterator for Pass<'a, C> {
 
     ghost remaining = { item_count (λ s. C.Circuit.rest s.circuit.now s.cursor) };
 
+    // Inlined here and in the layers: a call for each module would copy it once more at each of them.
+    #[inline(always)]
     fn next(&mut self) -> Option<Module<C::Key>> {
         self.circuit.next(&mut self.cursor)
     }

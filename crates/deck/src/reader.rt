@@ -19,6 +19,7 @@ pub struct Commands<'a> {
 
 impl<'a> Commands<'a> {
     /// The command at the front, and what is still to be read behind it.
+    #[inline]
     pub(crate) fn read(&self) -> Result<(Command<'a>, Commands<'a>), Refusal>
         ensures { MatchResult result (λ p. Gives self.now.rest.now self.now.offset p.0 p.1.rest.now p.1.offset) (λ x. Unreadable self.now.offset self.now.rest.now x) }
     {

@@ -20,6 +20,7 @@ impl<'a> Iterator for Commands<'a> {
 
     ghost remaining = { λ s. at_most (length (entries_in 0 s.rest.now)) };
 
+    #[inline]
     fn next(&mut self) -> Option<Command<'a>> {
         // No `.ok()?`: it is as long, and its proof longer.
         let Ok((command, behind)) = self.read() else {
@@ -66,6 +67,7 @@ impl<'a> Circuit for Deck<'a> {
         self.commands()
     }
 
+    #[inline]
     fn next(&self, cursor: &mut Commands<'a>) -> Option<Module<NumberKey>> {
         // Neither `for` nor `find_map`: a proof does not learn of them where the cursor stands at the end.
         while let Some(command) = cursor.next() {

@@ -39,6 +39,7 @@ impl<C: Circuit, T: ModuleTest<C::Key>> Circuit for Filtered<C, T> {
         self.below.begin()
     }
 
+    #[inline(always)]
     fn next(&self, cursor: &mut C::Cursor) -> Option<Module<C::Key>> {
         // No `find` over `from_fn`: no proof knows that such an iterator ends.
         while let Some(m) = self.below.next(cursor) {

@@ -34,21 +34,21 @@ impl Totals {
             modules: 0,
             steps: 0,
         };
-        for (position, module) in modules(circuit).enumerate() {
-            totals = totals.and(position, module.width);
+        for m in modules(circuit) {
+            totals = totals.and(m.width);
         }
         totals
     }
 
-    /// These totals of the modules before that position, and the module that stands there.
-    fn and(self, position: usize, width: Width) -> Totals
-        requires place { position + 1 < 2 ^ 64 }
+    /// These totals and a module of that width.
+    fn and(self, width: Width) -> Totals
+        requires place { self.modules + 1 < 2 ^ 64 }
         requires room { self.steps + width.steps < 2 ^ 32 }
-        ensures modules { result.modules ≡ position + 1 }
+        ensures modules { result.modules ≡ self.modules + 1 }
         ensures steps { result.steps ≡ self.steps + width.steps }
     {
         Totals {
-            modules: position + 1,
+            modules: self.modules + 1,
             steps: self.steps + u32::from(width.steps()),
         }
     }
@@ -66,9 +66,10 @@ where
         modules: 0,
         steps: 0,
     };
-    for (position, module) in modules(circuit).enumerate() {
+    for module in modules(circuit) {
+        let position = totals.modules;
         rt.println(ModuleLine { position, module })?;
-        totals = totals.and(position, module.width);
+        totals = totals.and(module.width);
     }
     Ok(totals)
 }

@@ -41,6 +41,7 @@ impl<C: Circuit> Circuit for HousePile<C, C::Key> {
         self.layers.begin()
     }
 
+    #[inline(always)]
     fn next(&self, cursor: &mut FoldingCursor<C::Cursor, C::Key>) -> Option<Module<C::Key>> {
         self.layers.next(cursor)
     }

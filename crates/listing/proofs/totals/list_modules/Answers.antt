@@ -1,8 +1,15 @@
-use Rattle.std.proofs.Common.{rules, zero-add}
+use Rattle.std.proofs.Common.{arith}
+use Rattle.std.proofs.lemmas.Grind.{common_steps}
 use Rattle.circuit.proofs.Lengths.{lawful_length}
 use Rattle.listing.proofs.totals.list_modules.Goals as goal
 
-pub loop-position-init : goal.loop-position-init
-loop-position-init g c =
+-- a circuit has no more modules and widths than 32 bits hold
+pub and-totals-requires-clause-place : goal.and-totals-requires-clause-place
+and-totals-requires-clause-place g c =
     let few = lawful_length _ (g.C.Circuit.lawful c.args.circuit.now) in
-    (search rules, search rules, search rules, search rules, rw (c.into_iter-position-iterator.ensures.into_iter_gives, c.enumerate-position-items.ensures.source, c.modules.ensures.all) (zero-add _))
+    omega (arith, c.loop-module.invariant)
+
+pub and-totals-requires-clause-room : goal.and-totals-requires-clause-room
+and-totals-requires-clause-room g c =
+    let narrow = (g.C.Circuit.lawful c.args.circuit.now).total in
+    grind (arith, common_steps)
