@@ -1,6 +1,6 @@
 //! The listing of a circuit.
 
-ghost use Rattle.std.specs.Prelude.{IfOk};
+ghost use Rattle.std.specs.Prelude.{IfOk, IsOk, IsTrue};
 ghost use Rattle.listing.specs.Totals.{TotalsOf};
 
 use circuit::Circuit;
@@ -16,11 +16,12 @@ where
     rt.println(totals)
 }
 
-/// Prints a line for each module, unless only the totals are asked for, and gives the totals.
+/// Prints a line for each module, unless only the totals are asked for, and gives the totals. Where it prints nothing it cannot fail.
 fn list_or_add<C: Circuit>(rt: &impl Print, circuit: &C, only_totals: bool) -> io::Result<Totals>
 where
     C::Key: NamedKey,
-    ensures { IfOk result (λ t. TotalsOf (C.Circuit.list circuit.now) t.modules t.steps) }
+    ensures totals { IfOk result (λ t. TotalsOf (C.Circuit.list circuit.now) t.modules t.steps) }
+    ensures added { IsTrue only_totals → IsOk result }
 {
     if only_totals {
         Ok(Totals::of(circuit))
